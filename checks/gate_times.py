@@ -26,7 +26,7 @@ REFERENCE = {
     "jlr_parts": 83,
     "jlr_plain_asks": 47,
     "jlr_plain_images": 102,
-    "jlr_plain_parts": 105,
+    "jlr_plain_images": 105,
     "jlr_process": 37,
     "jlr_resource": 31,
     "jlr_roots": 61,

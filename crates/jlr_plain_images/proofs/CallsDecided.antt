@@ -25,10 +25,10 @@ use Rattle.jlr_plain_images.specs.Resources.{has_resource}
 use Rattle.jlr_plain_images.specs.Calls.{same_call, is_free_call, is_in_call, is_guard_in_call, is_fencing, fits_call, fits_own_call}
 use Rattle.jlr_plain_images.specs.Calls.{all_fit_calls, is_calling, is_called, needs_call, has_its_call, all_have_calls, is_called_job}
 use Rattle.jlr_plain_images.specs.Calls.{all_jobs_called, are_in_one_call, call_is_apart, calls_are_apart, calls_fit}
-use Rattle.jlr_plain_parts.proofs.States.{armed_is}
+use Rattle.jlr_plain_images.proofs.States.{armed_is}
 use Rattle.jlr_plain_images.proofs.WorksDecided.{Decides-resource}
-use Rattle.jlr_plain_parts.proofs.Everywhere.{Decides-none, Decides-numbers, Decides-others, Decides-slots, Decides-found, there_gives}
-use Rattle.jlr_plain_parts.proofs.Everywhere.{there_from, some_place_gives, some_place_from, also, turned}
+use Rattle.jlr_plain_images.proofs.Everywhere.{Decides-none, Decides-numbers, Decides-others, Decides-slots, Decides-found, there_gives}
+use Rattle.jlr_plain_images.proofs.Everywhere.{there_from, some_place_gives, some_place_from, also, turned}
 
 -- ---- Calls
 

@@ -6,8 +6,8 @@ use Rattle.jlr_machine.specs.declared.machine.Machine.{Machine}
 use Rattle.jlr_machine.specs.Objects.{is_rising}
 use Rattle.jlr_laws.specs.Deciding.{is_empty}
 use Rattle.jlr_plain_images.specs.Images.{IsRestFit, itself, rest_fits}
-use Rattle.jlr_plain_parts.specs.Places.{rising_by}
-use Rattle.jlr_plain_parts.proofs.Everywhere.{Decides-rising, Decides-most, Decides-less, Decides-all, also, turned}
+use Rattle.jlr_plain_images.specs.Places.{rising_by}
+use Rattle.jlr_plain_images.proofs.Everywhere.{Decides-rising, Decides-most, Decides-less, Decides-all, also, turned}
 
 map_itself : (xs : List ℕ) → map itself xs ≡ xs
 map_itself [] = refl

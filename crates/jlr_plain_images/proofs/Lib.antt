@@ -3,3 +3,10 @@ pub mod ResourcesDecided
 pub mod CallsDecided
 pub mod UnnamedDecided
 pub mod ImagesDecided
+pub mod Everywhere
+pub mod States
+pub mod SlotsDecided
+pub mod ReferencesDecided
+pub mod ListsDecided
+pub mod SessionsDecided
+pub mod ActionsDecided

@@ -21,17 +21,17 @@ use Rattle.jlr_machine.specs.Lookups.{resource_at, job_of, cleanable_at}
 use Rattle.jlr_machine.specs.WellFormed.{AreResources, HasResource, HasWorker, IsUnspent, IsJob, IsOwnGuard, IsGuardAt, IsCleanableAt}
 use Rattle.jlr_laws.proofs.Frames.{no_some, some_same, is_cleanable_there}
 use Rattle.jlr_laws.proofs.Keyed.{key_found}
-use Rattle.jlr_plain_parts.specs.Places.{keys_are_apart, on_guard, on_cleanable}
+use Rattle.jlr_plain_images.specs.Places.{keys_are_apart, on_guard, on_cleanable}
 use Rattle.jlr_plain_images.specs.Resources.{is_on_resource, is_work_on, is_closing, is_idle, is_worker, has_worker, is_worked}
 use Rattle.jlr_plain_images.specs.Resources.{all_are_worked, serves, is_served, has_its_resource, closes, closes_its_own, all_jobs_close}
 use Rattle.jlr_plain_images.specs.Resources.{guarded_slot, is_own, owns, all_guards_own, is_guard_of, is_guarded, all_are_guarded, rid_in}
 use Rattle.jlr_plain_images.specs.Resources.{resources_fit}
-use Rattle.jlr_plain_parts.proofs.States.{spent_is, armed_is, unless_spent}
+use Rattle.jlr_plain_images.proofs.States.{spent_is, armed_is, unless_spent}
 use Rattle.jlr_plain_images.proofs.WorksDecided.{same_rid, no_rid, Decides-work, on_gives, closing_is, idle_is, found_resource}
 use Rattle.jlr_plain_images.proofs.WorksDecided.{Decides-resource}
-use Rattle.jlr_plain_parts.proofs.Everywhere.{Decides-any, Decides-cleanables, Decides-rising, Decides-apart, Decides-number, Decides-found}
-use Rattle.jlr_plain_parts.proofs.Everywhere.{Decides-slots, Decides-on_guard, Decides-on_cleanable, there_gives, there_from}
-use Rattle.jlr_plain_parts.proofs.Everywhere.{some_place_gives, some_place_from, also, turned}
+use Rattle.jlr_plain_images.proofs.Everywhere.{Decides-any, Decides-cleanables, Decides-rising, Decides-apart, Decides-number, Decides-found}
+use Rattle.jlr_plain_images.proofs.Everywhere.{Decides-slots, Decides-on_guard, Decides-on_cleanable, there_gives, there_from}
+use Rattle.jlr_plain_images.proofs.Everywhere.{some_place_gives, some_place_from, also, turned}
 
 -- ---- Each resource is the work of a cleanable or a job
 

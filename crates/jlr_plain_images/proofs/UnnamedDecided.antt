@@ -13,8 +13,8 @@ use Rattle.jlr_plain_images.specs.Resources.{is_on_resource}
 use Rattle.jlr_plain_images.specs.Unnamed.{is_private_object, is_public, handles_public, fields_public, referent_public, private_fit}
 use Rattle.jlr_plain_images.proofs.WorksDecided.{on_gives}
 use Rattle.jlr_plain_images.proofs.CallsDecided.{Decides-in_call}
-use Rattle.jlr_plain_parts.proofs.Everywhere.{Decides-places, Decides-bound, Decides-any, Decides-contents, Decides-plain}
-use Rattle.jlr_plain_parts.proofs.Everywhere.{Decides-references, there_gives, there_from, also, turned}
+use Rattle.jlr_plain_images.proofs.Everywhere.{Decides-places, Decides-bound, Decides-any, Decides-contents, Decides-plain}
+use Rattle.jlr_plain_images.proofs.Everywhere.{Decides-references, there_gives, there_from, also, turned}
 
 private_there : (m : Machine) (s : ℕ) (o : Object) → at m.objects s ≡ Some o → is_private_object m o ≡ true → IsPrivate m s
 private_there m s (Cleanable c) e h = let r = on_gives c.work h in inl (c, r.0, e, r.1)

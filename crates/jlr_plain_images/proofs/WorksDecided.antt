@@ -14,7 +14,7 @@ use Rattle.jlr_laws.proofs.Frames.{no_some, some_same}
 use Rattle.jlr_laws.proofs.Keyed.{key_found}
 use Rattle.jlr_plain_images.specs.Resources.{is_on_resource, is_work_on, is_opening, is_idle, is_out, is_closing, is_state, fits_resource}
 use Rattle.jlr_plain_images.specs.Resources.{has_resource}
-use Rattle.jlr_plain_parts.proofs.Everywhere.{there_gives}
+use Rattle.jlr_plain_images.proofs.Everywhere.{there_gives}
 
 -- ---- Works
 

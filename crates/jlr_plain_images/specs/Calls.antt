@@ -15,7 +15,7 @@ use Rattle.jlr_machine.specs.declared.machine.ResourceState.{ResourceState}
 use Rattle.jlr_machine.specs.declared.machine.ResourceState.TheVariants.{Opening, Idle, Out, Closing}
 use Rattle.jlr_machine.specs.Objects.{at, some_and, is_armed}
 use Rattle.jlr_machine.specs.Lookups.{resource_at, job_of, cleanable_at}
-use Rattle.jlr_plain_parts.specs.Places.{none_or, each_number}
+use Rattle.jlr_plain_images.specs.Places.{none_or, each_number}
 use Rattle.jlr_plain_images.specs.Resources.{has_resource}
 
 -- the two calls are the same

@@ -4,7 +4,7 @@ use Rattle.std.specs.List.{list_all}
 use Rattle.jlr_machine.specs.declared.machine.Machine.{Machine}
 use Rattle.jlr_machine.specs.Objects.{◌∈◌, is_rising}
 use Rattle.jlr_laws.specs.Deciding.{is_empty}
-use Rattle.jlr_plain_parts.specs.Places.{rising_by}
+use Rattle.jlr_plain_images.specs.Places.{rising_by}
 
 -- what a well-formed machine keeps beside its nine parts
 pub record IsRestFit (m : Machine) : Type 0 where

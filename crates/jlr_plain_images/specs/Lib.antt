@@ -2,3 +2,9 @@ pub mod Resources
 pub mod Calls
 pub mod Unnamed
 pub mod Images
+pub mod Places
+pub mod Slots
+pub mod References
+pub mod Lists
+pub mod Sessions
+pub mod Actions

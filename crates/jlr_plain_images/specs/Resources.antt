@@ -14,7 +14,7 @@ use Rattle.jlr_machine.specs.declared.machine.ResourceState.{ResourceState}
 use Rattle.jlr_machine.specs.declared.machine.ResourceState.TheVariants.{Opening, Idle, Out, Closing}
 use Rattle.jlr_machine.specs.Objects.{at, some_and, is_armed, is_spent}
 use Rattle.jlr_machine.specs.Lookups.{resource_at, job_of, cleanable_at}
-use Rattle.jlr_plain_parts.specs.Places.{none_or, each_number, on_cleanable, on_guard, rising_by, keys_are_apart}
+use Rattle.jlr_plain_images.specs.Places.{none_or, each_number, on_cleanable, on_guard, rising_by, keys_are_apart}
 
 -- ---- Works and states
 

@@ -10,7 +10,7 @@ use Rattle.jlr_machine.specs.declared.machine.Session.{Session}
 use Rattle.jlr_machine.specs.declared.machine.ResourceState.TheVariants.{Opening}
 use Rattle.jlr_machine.specs.Objects.{at, some_and}
 use Rattle.jlr_machine.specs.Lookups.{cleanable_at}
-use Rattle.jlr_plain_parts.specs.Places.{none_or, each_slot, on_plain, on_reference}
+use Rattle.jlr_plain_images.specs.Places.{none_or, each_slot, on_plain, on_reference}
 use Rattle.jlr_plain_images.specs.Resources.{is_on_resource}
 use Rattle.jlr_plain_images.specs.Calls.{is_in_call}
 

@@ -3,19 +3,19 @@ ghost use Rattle.std.specs.Prelude.{◌≡◌, ◌↔◌, ◌||◌, IsTrue, nat_
 ghost use Rattle.std.specs.List.{list_all};
 ghost use Rattle.jlr_machine.specs.WellFormed.{IsWellFormed, IsImage};
 ghost use Rattle.jlr_laws.specs.Deciding.{is_empty};
-ghost use Rattle.jlr_plain_parts.specs.Places.{rising_by};
+ghost use Rattle.jlr_plain_images.specs.Places.{rising_by};
 ghost use Rattle.jlr_plain_images.specs.Images.{itself, seen_fits, rest_fits, IsRestFit};
 
 use crate::calls::are_calls;
 use crate::resources::are_resources;
 use crate::unnamed::are_private;
 use jlr_machine::machine::Machine;
-use jlr_plain_parts::actions::are_actions;
-use jlr_plain_parts::limits::is_within_limits;
-use jlr_plain_parts::lists::are_lists;
-use jlr_plain_parts::references::are_references;
-use jlr_plain_parts::sessions::are_sessions;
-use jlr_plain_parts::slots::are_slots_named;
+use crate::parts::actions::are_actions;
+use crate::parts::limits::is_within_limits;
+use crate::parts::lists::are_lists;
+use crate::parts::references::are_references;
+use crate::parts::sessions::are_sessions;
+use crate::parts::slots::are_slots_named;
 use jlr_types::Slot;
 
 fn all_later(slot: Slot, slots: &[Slot]) -> bool

@@ -4,6 +4,7 @@
 
 pub mod calls;
 pub mod image;
+pub mod parts;
 pub mod resources;
 pub mod unnamed;
 mod works;

@@ -4,7 +4,7 @@ ghost use Rattle.std.specs.List.{list_all, list_any};
 ghost use Rattle.jlr_machine.specs.Objects.{at, some_and, is_armed, is_spent};
 ghost use Rattle.jlr_machine.specs.Lookups.{job_of, resource_at};
 ghost use Rattle.jlr_machine.specs.WellFormed.{AreResources};
-ghost use Rattle.jlr_plain_parts.specs.Places.{none_or, on_cleanable, rising_by, is_only_key, keys_are_apart};
+ghost use Rattle.jlr_plain_images.specs.Places.{none_or, on_cleanable, rising_by, is_only_key, keys_are_apart};
 ghost use Rattle.jlr_plain_images.specs.Resources.{is_on_resource, is_work_on, is_worker, is_worked, all_are_worked};
 ghost use Rattle.jlr_plain_images.specs.Resources.{serves, has_its_resource, closes_its_own, all_jobs_close};
 ghost use Rattle.jlr_plain_images.specs.Resources.{guarded_slot, is_own, owns, all_guards_own, is_guard_of, is_guarded};

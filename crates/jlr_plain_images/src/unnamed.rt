@@ -3,7 +3,7 @@ ghost use Rattle.std.specs.Prelude.{◌≡◌, ◌↔◌, IsTrue};
 ghost use Rattle.std.specs.List.{list_all};
 ghost use Rattle.jlr_machine.specs.Edges.{slot_in};
 ghost use Rattle.jlr_machine.specs.WellFormed.{ArePrivate};
-ghost use Rattle.jlr_plain_parts.specs.Places.{none_or, on_plain, on_reference};
+ghost use Rattle.jlr_plain_images.specs.Places.{none_or, on_plain, on_reference};
 ghost use Rattle.jlr_plain_images.specs.Unnamed.{is_private_object, is_public, handles_public, fields_public};
 ghost use Rattle.jlr_plain_images.specs.Unnamed.{referent_public, private_fit};
 

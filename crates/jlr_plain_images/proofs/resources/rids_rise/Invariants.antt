@@ -1,5 +1,5 @@
 use Rattle.std.proofs.Common.{length, ◌-◌, ◌≡◌, drop}
-use Rattle.jlr_plain_parts.specs.Places.{rising_by}
+use Rattle.jlr_plain_images.specs.Places.{rising_by}
 use Rattle.jlr_plain_images.specs.Resources.{rid_in}
 use Rattle.jlr_plain_images.proofs.resources.rids_rise.Given as goal
 

@@ -6,9 +6,9 @@ ghost use Rattle.jlr_machine.specs.declared.object.Object.TheVariants.{Reference
 ghost use Rattle.jlr_machine.specs.Edges.{slot_in};
 ghost use Rattle.jlr_machine.specs.Refusals.{is_queue};
 ghost use Rattle.jlr_machine.specs.WellFormed.{AreSlotsNamed};
-ghost use Rattle.jlr_plain_parts.specs.Places.{none_or, on_reference, on_guard};
-ghost use Rattle.jlr_plain_parts.specs.Slots.{is_there, fields_there, edges_there, session_there, roots_there};
-ghost use Rattle.jlr_plain_parts.specs.Slots.{queue_there, cleanable_there, slots_fit};
+ghost use Rattle.jlr_plain_images.specs.Places.{none_or, on_reference, on_guard};
+ghost use Rattle.jlr_plain_images.specs.Slots.{is_there, fields_there, edges_there, session_there, roots_there};
+ghost use Rattle.jlr_plain_images.specs.Slots.{queue_there, cleanable_there, slots_fit};
 
 use jlr_machine::machine::{Binding, Machine, Session};
 use jlr_machine::object::{Contents, Guard, Object, Reference};
@@ -184,7 +184,7 @@ fn slots_tested(machine: &Machine) -> bool
 
 /// Whether each slot that is named by an object or as a root is an object, each queue of a reference a queue, and what
 /// each guard names a cleanable.
-#[tactic(auto, using(crate::proofs::SlotsDecided::slots_decided))]
+#[tactic(auto, using(crate::parts::proofs::SlotsDecided::slots_decided))]
 pub fn are_slots_named(machine: &Machine) -> bool
     ensures { IsTrue result ↔ AreSlotsNamed machine.now }
 {

@@ -10,8 +10,8 @@ use Rattle.jlr_machine.specs.declared.machine.Call.TheVariants.{Free, Opening, O
 use Rattle.jlr_machine.specs.Objects.{at, occupied}
 use Rattle.jlr_machine.specs.Lookups.{same_name}
 use Rattle.jlr_machine.specs.WellFormed.{AreSessions, OpeningHasRoom}
-use Rattle.jlr_plain_parts.specs.Sessions.{opening_has_room, session_fits, is_new_name, names_differ, sessions_fit}
-use Rattle.jlr_plain_parts.proofs.Everywhere.{Decides-places, Decides-none, Decides-equal, Decides-most, also, turned}
+use Rattle.jlr_plain_images.specs.Sessions.{opening_has_room, session_fits, is_new_name, names_differ, sessions_fit}
+use Rattle.jlr_plain_images.proofs.Everywhere.{Decides-places, Decides-none, Decides-equal, Decides-most, also, turned}
 
 Decides-opening : (s : Session) (call : Call) → Decides (opening_has_room s call) (OpeningHasRoom s call)
 Decides-opening s (Opening rid) = Decides-most (occupied s.handles) 249

@@ -2,8 +2,8 @@
 ghost use Rattle.std.specs.Prelude.{◌≡◌, ◌↔◌, IsTrue};
 ghost use Rattle.jlr_machine.specs.Objects.{at, some_and};
 ghost use Rattle.jlr_machine.specs.WellFormed.{AreLists};
-ghost use Rattle.jlr_plain_parts.specs.Lists.{must_pend, may_pend, must_line_up, may_line_up, all_pend, all_line_up};
-ghost use Rattle.jlr_plain_parts.specs.Lists.{pending_may_pend, line_may_line_up, lists_fit};
+ghost use Rattle.jlr_plain_images.specs.Lists.{must_pend, may_pend, must_line_up, may_line_up, all_pend, all_line_up};
+ghost use Rattle.jlr_plain_images.specs.Lists.{pending_may_pend, line_may_line_up, lists_fit};
 
 use jlr_machine::machine::Machine;
 use jlr_machine::object::{CleanState, Object, RefState};
@@ -124,7 +124,7 @@ fn lists_tested(machine: &Machine) -> bool
 
 /// Whether the pending list and the line hold, once each, what has to wait there, and beside that only what no longer
 /// has to.
-#[tactic(auto, using(crate::proofs::ListsDecided::lists_decided))]
+#[tactic(auto, using(crate::parts::proofs::ListsDecided::lists_decided))]
 pub fn are_lists(machine: &Machine) -> bool
     ensures { IsTrue result ↔ AreLists machine.now }
 {

@@ -9,7 +9,7 @@ use Rattle.jlr_machine.specs.declared.object.CleanState.{CleanState}
 use Rattle.jlr_machine.specs.declared.object.CleanState.TheVariants.{Armed, Pending as PendingClean, Lined, Spent}
 use Rattle.jlr_machine.specs.declared.machine.Machine.{Machine}
 use Rattle.jlr_machine.specs.Objects.{at, some_and, ◌∋◌, is_distinct, is_fresh, is_lined, is_spent}
-use Rattle.jlr_plain_parts.specs.Places.{each_number}
+use Rattle.jlr_plain_images.specs.Places.{each_number}
 
 -- the states in which an object waits for the handler
 abbrev pub is_pending : RefState → Bool

@@ -5,9 +5,9 @@ ghost use Rattle.std.specs.List.{list_all};
 ghost use Rattle.jlr_machine.specs.Objects.{at, some_and, is_armed, is_spent};
 ghost use Rattle.jlr_machine.specs.Lookups.{job_of};
 ghost use Rattle.jlr_machine.specs.WellFormed.{AreActions, is_unspent_place};
-ghost use Rattle.jlr_plain_parts.specs.Places.{none_or, on_cleanable, rising_by, is_only_key, keys_are_apart};
-ghost use Rattle.jlr_plain_parts.specs.Actions.{unspent_action, is_action, acts, all_are_actions, action_of};
-ghost use Rattle.jlr_plain_parts.specs.Actions.{counts_fit, actions_fit};
+ghost use Rattle.jlr_plain_images.specs.Places.{none_or, on_cleanable, rising_by, is_only_key, keys_are_apart};
+ghost use Rattle.jlr_plain_images.specs.Actions.{unspent_action, is_action, acts, all_are_actions, action_of};
+ghost use Rattle.jlr_plain_images.specs.Actions.{counts_fit, actions_fit};
 
 use jlr_machine::machine::{Job, Machine};
 use jlr_machine::object::{CleanState, Cleanable, Object};
@@ -211,7 +211,7 @@ fn actions_tested(machine: &Machine) -> bool
 
 /// Whether the actions of unspent cleanables and running jobs are distinct, each action was given out, only Armed
 /// cleanables have a referent, at most one job is the cleaner's, and the counts fit.
-#[tactic(auto, using(crate::proofs::ActionsDecided::actions_decided))]
+#[tactic(auto, using(crate::parts::proofs::ActionsDecided::actions_decided))]
 pub fn are_actions(machine: &Machine) -> bool
     ensures { IsTrue result ↔ AreActions machine.now }
 {

@@ -8,7 +8,7 @@ use Rattle.jlr_machine.specs.declared.machine.Call.{Call}
 use Rattle.jlr_machine.specs.declared.machine.Call.TheVariants.{Opening}
 use Rattle.jlr_machine.specs.Objects.{at, occupied}
 use Rattle.jlr_machine.specs.Lookups.{same_name}
-use Rattle.jlr_plain_parts.specs.Places.{none_or}
+use Rattle.jlr_plain_images.specs.Places.{none_or}
 
 -- a mutator that opens something has room for its handle
 abbrev pub opening_has_room : Session → Call → Bool

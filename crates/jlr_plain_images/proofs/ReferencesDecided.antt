@@ -13,12 +13,12 @@ use Rattle.jlr_machine.specs.Objects.{Heap, at, some_and, ◌∋◌, ◌∈◌, 
 use Rattle.jlr_machine.specs.WellFormed.{AreReferences, FitsItsState}
 use Rattle.jlr_laws.proofs.Sets.{nothing}
 use Rattle.jlr_laws.proofs.Frames.{no_some, place_within}
-use Rattle.jlr_plain_parts.specs.Places.{on_queue}
-use Rattle.jlr_plain_parts.specs.References.{fits_state, fits_own_state, is_queued_object, members_fit, members_in, is_disjoint}
-use Rattle.jlr_plain_parts.specs.References.{shares_nothing, queues_are_apart, references_fit}
-use Rattle.jlr_plain_parts.proofs.States.{queued_is}
-use Rattle.jlr_plain_parts.proofs.Everywhere.{Decides-all, Decides-numbers, Decides-references, Decides-queues, Decides-slots}
-use Rattle.jlr_plain_parts.proofs.Everywhere.{Decides-on_queue, Decides-true, Decides-none, also, turned}
+use Rattle.jlr_plain_images.specs.Places.{on_queue}
+use Rattle.jlr_plain_images.specs.References.{fits_state, fits_own_state, is_queued_object, members_fit, members_in, is_disjoint}
+use Rattle.jlr_plain_images.specs.References.{shares_nothing, queues_are_apart, references_fit}
+use Rattle.jlr_plain_images.proofs.States.{queued_is}
+use Rattle.jlr_plain_images.proofs.Everywhere.{Decides-all, Decides-numbers, Decides-references, Decides-queues, Decides-slots}
+use Rattle.jlr_plain_images.proofs.Everywhere.{Decides-on_queue, Decides-true, Decides-none, also, turned}
 
 -- ---- States
 

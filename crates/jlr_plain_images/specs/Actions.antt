@@ -10,7 +10,7 @@ use Rattle.jlr_machine.specs.declared.machine.Job.{Job}
 use Rattle.jlr_machine.specs.Objects.{is_armed, is_spent}
 use Rattle.jlr_machine.specs.Lookups.{job_of}
 use Rattle.jlr_machine.specs.WellFormed.{is_unspent_place}
-use Rattle.jlr_plain_parts.specs.Places.{none_or, on_cleanable, rising_by, keys_are_apart}
+use Rattle.jlr_plain_images.specs.Places.{none_or, on_cleanable, rising_by, keys_are_apart}
 
 -- the action of an unspent cleanable
 abbrev pub unspent_action : Option Object → Option ℕ

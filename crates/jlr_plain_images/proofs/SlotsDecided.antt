@@ -17,10 +17,10 @@ use Rattle.jlr_laws.proofs.Sets.{nothing, in_front, in_cons}
 use Rattle.jlr_laws.proofs.Clearing.{in_option, edge_gives, edge_from, referent_is, some_kind}
 use Rattle.jlr_laws.proofs.Frames.{no_some, root_gives, root_from}
 use Rattle.jlr_laws.proofs.Frames.IsRoot.{held, fencing, named, waiting, lining, active}
-use Rattle.jlr_plain_parts.specs.Places.{none_or}
-use Rattle.jlr_plain_parts.specs.Slots.{is_there, edges_there, session_there, roots_there, queue_there, cleanable_there, slots_fit}
-use Rattle.jlr_plain_parts.proofs.Everywhere.{Decides-all, Decides-places, Decides-references, Decides-guards, Decides-true, Decides-any}
-use Rattle.jlr_plain_parts.proofs.Everywhere.{Decides-contents, Decides-bound, also, turned}
+use Rattle.jlr_plain_images.specs.Places.{none_or}
+use Rattle.jlr_plain_images.specs.Slots.{is_there, edges_there, session_there, roots_there, queue_there, cleanable_there, slots_fit}
+use Rattle.jlr_plain_images.proofs.Everywhere.{Decides-all, Decides-places, Decides-references, Decides-guards, Decides-true, Decides-any}
+use Rattle.jlr_plain_images.proofs.Everywhere.{Decides-contents, Decides-bound, also, turned}
 
 -- ---- Edges
 

@@ -3,9 +3,9 @@ ghost use Rattle.std.specs.Prelude.{◌≡◌, ◌↔◌, IsTrue};
 ghost use Rattle.std.specs.List.{list_all};
 ghost use Rattle.jlr_machine.specs.Objects.{at, some_and};
 ghost use Rattle.jlr_machine.specs.WellFormed.{AreReferences};
-ghost use Rattle.jlr_plain_parts.specs.References.{fits_own_state, states_fit, is_queued_object, members_fit};
-ghost use Rattle.jlr_plain_parts.specs.References.{queues_fit, members_in, is_disjoint, shares_nothing};
-ghost use Rattle.jlr_plain_parts.specs.References.{queues_are_apart, references_fit};
+ghost use Rattle.jlr_plain_images.specs.References.{fits_own_state, states_fit, is_queued_object, members_fit};
+ghost use Rattle.jlr_plain_images.specs.References.{queues_fit, members_in, is_disjoint, shares_nothing};
+ghost use Rattle.jlr_plain_images.specs.References.{queues_are_apart, references_fit};
 
 use jlr_machine::machine::Machine;
 use jlr_machine::object::{Object, RefState, Reference};
@@ -112,7 +112,7 @@ fn references_tested(machine: &Machine) -> bool
 
 /// Whether each reference has what its state says, and each queue has just Queued references as members, each of them
 /// in no other queue.
-#[tactic(auto, using(crate::proofs::ReferencesDecided::references_decided))]
+#[tactic(auto, using(crate::parts::proofs::ReferencesDecided::references_decided))]
 pub fn are_references(machine: &Machine) -> bool
     ensures { IsTrue result ↔ AreReferences machine.now }
 {

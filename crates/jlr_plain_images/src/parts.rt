@@ -1,6 +1,5 @@
 //! Whether the objects, the mutators, the lists and the actions of a machine are in order, part by part: exactly as the
 //! definitions say it, and without memory.
-#![tactic(auto)]
 
 pub mod actions;
 pub mod limits;

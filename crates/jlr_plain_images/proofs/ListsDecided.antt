@@ -12,10 +12,10 @@ use Rattle.jlr_machine.specs.declared.machine.Machine.{Machine}
 use Rattle.jlr_machine.specs.Objects.{Heap, at, some_and, ◌∋◌, ◌∈◌, is_distinct, is_fresh, is_lined, is_spent, as_reference, as_cleanable}
 use Rattle.jlr_machine.specs.WellFormed.{AreLists}
 use Rattle.jlr_laws.proofs.Frames.{no_some, some_same, place_within}
-use Rattle.jlr_plain_parts.specs.Places.{each_number}
-use Rattle.jlr_plain_parts.specs.Lists.{is_pending, is_pending_clean, must_pend, may_pend, must_line_up, may_line_up, lists_fit}
-use Rattle.jlr_plain_parts.proofs.States.{pending_is, unfresh_is, pending_clean_is, lined_is, spent_is}
-use Rattle.jlr_plain_parts.proofs.Everywhere.{implied, implies, Decides-all, Decides-numbers, there_gives, Decides-true, also, turned}
+use Rattle.jlr_plain_images.specs.Places.{each_number}
+use Rattle.jlr_plain_images.specs.Lists.{is_pending, is_pending_clean, must_pend, may_pend, must_line_up, may_line_up, lists_fit}
+use Rattle.jlr_plain_images.proofs.States.{pending_is, unfresh_is, pending_clean_is, lined_is, spent_is}
+use Rattle.jlr_plain_images.proofs.Everywhere.{implied, implies, Decides-all, Decides-numbers, there_gives, Decides-true, also, turned}
 
 -- ---- What is at a place
 

@@ -6,7 +6,7 @@ use Rattle.jlr_machine.specs.declared.object.RefState.TheVariants.{Fresh, Pendin
 use Rattle.jlr_machine.specs.declared.object.CleanState.{CleanState}
 use Rattle.jlr_machine.specs.declared.object.CleanState.TheVariants.{Armed, Pending as PendingClean, Lined, Spent}
 use Rattle.jlr_machine.specs.Objects.{is_fresh, is_queued, is_armed, is_lined, is_spent}
-use Rattle.jlr_plain_parts.specs.Lists.{is_pending, is_pending_clean}
+use Rattle.jlr_plain_images.specs.Lists.{is_pending, is_pending_clean}
 
 -- ---- References
 

@@ -19,8 +19,8 @@ use Rattle.jlr_machine.specs.Edges.{slot_in, slots_in}
 use Rattle.jlr_laws.proofs.Sets.{in_front, in_rest, all_gives}
 use Rattle.jlr_laws.proofs.Frames.{no_some, some_same, place_within}
 use Rattle.jlr_laws.proofs.Keyed.{by_key, key_found, all_found}
-use Rattle.jlr_plain_parts.specs.Places.{none_or, each_slot, each_number, rising_by, is_only_key, keys_are_apart, on_plain, on_reference}
-use Rattle.jlr_plain_parts.specs.Places.{on_queue, on_cleanable, on_guard}
+use Rattle.jlr_plain_images.specs.Places.{none_or, each_slot, each_number, rising_by, is_only_key, keys_are_apart, on_plain, on_reference}
+use Rattle.jlr_plain_images.specs.Places.{on_queue, on_cleanable, on_guard}
 
 -- ---- Bools
 

@@ -9,7 +9,7 @@ use Rattle.jlr_machine.specs.declared.object.RefState.{RefState}
 use Rattle.jlr_machine.specs.declared.object.RefState.TheVariants.{Fresh, Pending, Queued, Removed}
 use Rattle.jlr_machine.specs.declared.machine.Machine.{Machine}
 use Rattle.jlr_machine.specs.Objects.{Heap, at, some_and, ◌∋◌, is_distinct, is_queued}
-use Rattle.jlr_plain_parts.specs.Places.{none_or, each_number, on_reference, on_queue}
+use Rattle.jlr_plain_images.specs.Places.{none_or, each_number, on_reference, on_queue}
 
 -- Pending references have a queue, Queued and Removed ones none, and all three no referent
 abbrev pub fits_state : ReferenceOf → RefState → Bool

@@ -2,9 +2,9 @@
 ghost use Rattle.std.specs.Prelude.{◌≡◌, ◌↔◌, IsTrue};
 ghost use Rattle.std.specs.List.{list_all};
 ghost use Rattle.jlr_machine.specs.WellFormed.{AreSessions};
-ghost use Rattle.jlr_plain_parts.specs.Places.{none_or};
-ghost use Rattle.jlr_plain_parts.specs.Sessions.{opening_has_room, session_fits, is_new_name, names_differ};
-ghost use Rattle.jlr_plain_parts.specs.Sessions.{sessions_fit};
+ghost use Rattle.jlr_plain_images.specs.Places.{none_or};
+ghost use Rattle.jlr_plain_images.specs.Sessions.{opening_has_room, session_fits, is_new_name, names_differ};
+ghost use Rattle.jlr_plain_images.specs.Sessions.{sessions_fit};
 
 use jlr_machine::machine::{Binding, Call, Machine, Session};
 use jlr_plain_asks::lookups::{names_agree, occupied_handles};
@@ -63,7 +63,7 @@ fn sessions_tested(machine: &Machine) -> bool
 }
 
 /// Whether each mutator has its 250 handles and room for what it opens, and the names are distinct and at most 256.
-#[tactic(auto, using(crate::proofs::SessionsDecided::sessions_decided))]
+#[tactic(auto, using(crate::parts::proofs::SessionsDecided::sessions_decided))]
 pub fn are_sessions(machine: &Machine) -> bool
     ensures { IsTrue result ↔ AreSessions machine.now }
 {

@@ -12,11 +12,11 @@ use Rattle.jlr_machine.specs.Objects.{at, is_spent}
 use Rattle.jlr_machine.specs.Lookups.{job_of}
 use Rattle.jlr_machine.specs.WellFormed.{AreActions, IsAction, IsUnspent, is_unspent_place}
 use Rattle.jlr_laws.proofs.Frames.{no_some, some_same}
-use Rattle.jlr_plain_parts.specs.Places.{keys_are_apart}
-use Rattle.jlr_plain_parts.specs.Actions.{unspent_action, is_action, acts, all_are_actions, action_of, counts_fit, actions_fit}
-use Rattle.jlr_plain_parts.proofs.States.{spent_is, unless_spent, unless_armed}
-use Rattle.jlr_plain_parts.proofs.Everywhere.{Decides-most, Decides-less, Decides-equal, Decides-none, Decides-each, Decides-cleanables}
-use Rattle.jlr_plain_parts.proofs.Everywhere.{Decides-rising, Decides-apart, also, turned}
+use Rattle.jlr_plain_images.specs.Places.{keys_are_apart}
+use Rattle.jlr_plain_images.specs.Actions.{unspent_action, is_action, acts, all_are_actions, action_of, counts_fit, actions_fit}
+use Rattle.jlr_plain_images.proofs.States.{spent_is, unless_spent, unless_armed}
+use Rattle.jlr_plain_images.proofs.Everywhere.{Decides-most, Decides-less, Decides-equal, Decides-none, Decides-each, Decides-cleanables}
+use Rattle.jlr_plain_images.proofs.Everywhere.{Decides-rising, Decides-apart, also, turned}
 
 Decides-action : (m : Machine) (action : ℕ) → Decides (is_action m action) (IsAction m action)
 Decides-action m action = also (Decides-most 1 action) (Decides-less action m.next_action)

@@ -10,7 +10,7 @@ use Rattle.jlr_machine.specs.declared.machine.Machine.{Machine}
 use Rattle.jlr_machine.specs.declared.machine.Session.{Session}
 use Rattle.jlr_machine.specs.Objects.{Heap, at, some_and, queue_ahead}
 use Rattle.jlr_machine.specs.Refusals.{is_queue, is_cleanable}
-use Rattle.jlr_plain_parts.specs.Places.{none_or, each_slot, on_reference, on_guard}
+use Rattle.jlr_plain_images.specs.Places.{none_or, each_slot, on_reference, on_guard}
 
 -- there is an object at s
 abbrev pub is_there : Heap → ℕ → Bool

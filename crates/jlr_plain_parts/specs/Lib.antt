@@ -1,6 +1,0 @@
-pub mod Places
-pub mod Slots
-pub mod References
-pub mod Lists
-pub mod Sessions
-pub mod Actions
