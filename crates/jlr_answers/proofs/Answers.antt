@@ -10,14 +10,14 @@ use Rattle.jlr_machine.specs.declared.ask.Handed.TheVariants.{Queued, Lined, Ski
 use Rattle.jlr_machine.specs.declared.ask.Stat.{Stat as StatOf}
 use Rattle.jlr_machine.specs.declared.ask.Answer.TheVariants.{Done, Handle, Truth, Int, Data, Wrote, Faulted, Names, Notes, Faults, Stat}
 use Rattle.jlr_machine.specs.declared.ask.Answer.TheVariants.{Job, AlreadyDone, Prepared, Out, Handed, Refused}
-use Rattle.jlr_fields.specs.Reading.{picked_at}
-use Rattle.jlr_fields.specs.Spelling.{spelled_8}
-use Rattle.jlr_fields.specs.Laws.{TakesBehind, TakesSpelled, ReadsAgain, IsField}
-use Rattle.jlr_fields.proofs.Steps.{bind_ok}
-use Rattle.jlr_fields.proofs.Numbers.{four_bytes, eight_bytes, four_least}
-use Rattle.jlr_fields.proofs.Basics.{byte, within, flag, signed, bytes, picked, picked_takes}
-use Rattle.jlr_fields.proofs.Lists.{list_field}
-use Rattle.jlr_fields.proofs.Products.{made_takes, one_takes, two_takes, five_takes, one_again, two_again, five_again}
+use Rattle.jlr_trace_fields.specs.Reading.{picked_at}
+use Rattle.jlr_trace_fields.specs.Spelling.{spelled_8}
+use Rattle.jlr_trace_fields.specs.Laws.{TakesBehind, TakesSpelled, ReadsAgain, IsField}
+use Rattle.jlr_trace_fields.proofs.Steps.{bind_ok}
+use Rattle.jlr_trace_fields.proofs.Numbers.{four_bytes, eight_bytes, four_least}
+use Rattle.jlr_trace_fields.proofs.Basics.{byte, within, flag, signed, bytes, picked, picked_takes}
+use Rattle.jlr_trace_fields.proofs.Lists.{list_field}
+use Rattle.jlr_trace_fields.proofs.Products.{made_takes, one_takes, two_takes, five_takes, one_again, two_again, five_again}
 use Rattle.jlr_parts.proofs.TableLaws.{fault}
 use Rattle.jlr_parts.proofs.Objects.{work}
 use Rattle.jlr_parts.proofs.Records.{name, name_least, failure, failure_least}

@@ -14,11 +14,11 @@ use Rattle.jlr_machine.specs.declared.ask.Answer.{Answer}
 use Rattle.jlr_machine.specs.declared.ask.Answer.TheVariants.{Done, Handle, Truth, Int, Data, Wrote, Faulted, Names}
 use Rattle.jlr_machine.specs.declared.ask.Answer.TheVariants.{Notes, Faults, Stat, Job, AlreadyDone, Prepared, Out}
 use Rattle.jlr_machine.specs.declared.ask.Answer.TheVariants.{Handed, Refused}
-use Rattle.jlr_fields.specs.Spelling.{spelled_flag, spelled_32, spelled_64, spelled_signed, spelled_text, IsSigned}
-use Rattle.jlr_fields.specs.Spelling.{IsText, IsWithin}
-use Rattle.jlr_fields.specs.Reading.{Reader, ◌>>=◌, one_field, two_fields, five_fields, byte_at, byte_within_at}
-use Rattle.jlr_fields.specs.Reading.{number_at, signed_at, flag_at, picked_at, bytes_at, text_at, is_name_byte}
-use Rattle.jlr_fields.specs.Items.{list_at, spelled_list, IsListed}
+use Rattle.jlr_trace_fields.specs.Spelling.{spelled_flag, spelled_32, spelled_64, spelled_signed, spelled_text, IsSigned}
+use Rattle.jlr_trace_fields.specs.Spelling.{IsText, IsWithin}
+use Rattle.jlr_trace_fields.specs.Reading.{Reader, ◌>>=◌, one_field, two_fields, five_fields, byte_at, byte_within_at}
+use Rattle.jlr_trace_fields.specs.Reading.{number_at, signed_at, flag_at, picked_at, bytes_at, text_at, is_name_byte}
+use Rattle.jlr_trace_fields.specs.Items.{list_at, spelled_list, IsListed}
 use Rattle.jlr_parts.specs.Tables.{faults, fault_number}
 use Rattle.jlr_parts.specs.Objects.{spelled_work, WorkFits, work_read}
 use Rattle.jlr_parts.specs.Records.{NameFits, spelled_failure, FailureFits, failure_read}

@@ -1,6 +1,6 @@
 //! Reads answers.
 ghost use Rattle.std.specs.Prelude.{◌≡◌};
-ghost use Rattle.jlr_fields.specs.Reading.{Reads};
+ghost use Rattle.jlr_trace_fields.specs.Reading.{Reads};
 ghost use Rattle.jlr_answers.specs.declared.tag.Tag.TheVariants.{Handle as TagHandle, Truth as TagTruth, Int as TagInt};
 ghost use Rattle.jlr_answers.specs.declared.tag.Tag.TheVariants.{Data as TagData, Wrote as TagWrote};
 ghost use Rattle.jlr_answers.specs.declared.tag.Tag.TheVariants.{Faulted as TagFaulted, Names as TagNames};
@@ -12,10 +12,10 @@ ghost use Rattle.jlr_answers.specs.Answers.{answer_read, body_of};
 
 use crate::detail::{handed_at, refusal_at, stat_at};
 use crate::tag::{Tag, tag_at};
-use jlr_fields::cursor::{
+use jlr_trace_fields::cursor::{
     take_action, take_data, take_flag, take_handle, take_i64, take_rid, take_within,
 };
-use jlr_fields::fault::ReadError;
+use jlr_trace_fields::fault::ReadError;
 use jlr_machine::ask::Answer;
 use jlr_machine::text::WriteCount;
 use jlr_parts::items::take_list;

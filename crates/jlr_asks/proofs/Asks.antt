@@ -17,20 +17,20 @@ use Rattle.jlr_machine.specs.declared.ask.Ask.TheVariants.{Join, Leave, New, Put
 use Rattle.jlr_machine.specs.declared.ask.Ask.TheVariants.{Clear, Enqueue, Enqueued, MakeQueue, Poll, Remove, MakeCleaner, Register, Clean}
 use Rattle.jlr_machine.specs.declared.ask.Ask.TheVariants.{Prepare, Opened, CheckOut, CheckIn, Close, Finish, Bind, Find, Unbind, Names}
 use Rattle.jlr_machine.specs.declared.ask.Ask.TheVariants.{Full, Stat, Notes, Faults, HandOver, TakeUp, Begin, Collect, Abandon, Array}
-use Rattle.jlr_fields.specs.declared.fault.Fault.{Fault}
-use Rattle.jlr_fields.specs.declared.fault.Fault.TheVariants.{Range}
-use Rattle.jlr_fields.specs.declared.version.Version.{Version}
-use Rattle.jlr_fields.specs.declared.version.Version.TheVariants.{One, Two}
-use Rattle.jlr_fields.specs.Reading.{picked_at, number_within_at}
-use Rattle.jlr_fields.specs.Spelling.{spelled_8, spelled_16, IsBytes, IsWithin}
-use Rattle.jlr_fields.specs.Items.{items_at}
-use Rattle.jlr_fields.specs.Laws.{Takes, TakesBehind, TakesSpelled, ReadsAgain, IsField}
-use Rattle.jlr_fields.proofs.Steps.{bind_ok, ok_is}
-use Rattle.jlr_fields.proofs.Numbers.{two_bytes, four_bytes, eight_bytes}
-use Rattle.jlr_fields.proofs.Basics.{byte, within, number_within, signed, bytes, picked, picked_takes}
-use Rattle.jlr_fields.proofs.Lists.{items_take, items_again}
-use Rattle.jlr_fields.proofs.Products.{then_takes, made_takes, one_takes, two_takes, three_takes, four_takes, then_again, one_again}
-use Rattle.jlr_fields.proofs.Products.{two_again, three_again, four_again}
+use Rattle.jlr_trace_fields.specs.declared.fault.Fault.{Fault}
+use Rattle.jlr_trace_fields.specs.declared.fault.Fault.TheVariants.{Range}
+use Rattle.jlr_trace_fields.specs.declared.version.Version.{Version}
+use Rattle.jlr_trace_fields.specs.declared.version.Version.TheVariants.{One, Two}
+use Rattle.jlr_trace_fields.specs.Reading.{picked_at, number_within_at}
+use Rattle.jlr_trace_fields.specs.Spelling.{spelled_8, spelled_16, IsBytes, IsWithin}
+use Rattle.jlr_trace_fields.specs.Items.{items_at}
+use Rattle.jlr_trace_fields.specs.Laws.{Takes, TakesBehind, TakesSpelled, ReadsAgain, IsField}
+use Rattle.jlr_trace_fields.proofs.Steps.{bind_ok, ok_is}
+use Rattle.jlr_trace_fields.proofs.Numbers.{two_bytes, four_bytes, eight_bytes}
+use Rattle.jlr_trace_fields.proofs.Basics.{byte, within, number_within, signed, bytes, picked, picked_takes}
+use Rattle.jlr_trace_fields.proofs.Lists.{items_take, items_again}
+use Rattle.jlr_trace_fields.proofs.Products.{then_takes, made_takes, one_takes, two_takes, three_takes, four_takes, then_again, one_again}
+use Rattle.jlr_trace_fields.proofs.Products.{two_again, three_again, four_again}
 use Rattle.jlr_parts.proofs.TableLaws.{ref_kind, fault}
 use Rattle.jlr_parts.proofs.Records.{name}
 use Rattle.jlr_asks.specs.declared.tag.Tag.{Tag}

@@ -20,15 +20,15 @@ use Rattle.jlr_machine.specs.declared.ask.Ask.TheVariants.{Poll, Remove, MakeCle
 use Rattle.jlr_machine.specs.declared.ask.Ask.TheVariants.{CheckOut, CheckIn, Close, Finish, Bind, Find, Unbind, Names}
 use Rattle.jlr_machine.specs.declared.ask.Ask.TheVariants.{Full, Stat, Notes, Faults, HandOver, TakeUp, Begin, Collect}
 use Rattle.jlr_machine.specs.declared.ask.Ask.TheVariants.{Abandon, Array}
-use Rattle.jlr_fields.specs.declared.fault.Fault.TheVariants.{Range}
-use Rattle.jlr_fields.specs.declared.version.Version.{Version}
-use Rattle.jlr_fields.specs.declared.version.Version.TheVariants.{One, Two}
-use Rattle.jlr_fields.specs.Spelling.{spelled_8, spelled_16, spelled_32, spelled_64, spelled_signed, spelled_text}
-use Rattle.jlr_fields.specs.Spelling.{IsSigned, IsText, IsWithin}
-use Rattle.jlr_fields.specs.Reading.{Reader, ◌>>=◌, one_field, two_fields, three_fields, four_fields, byte_at}
-use Rattle.jlr_fields.specs.Reading.{byte_within_at, number_at, number_within_at, signed_at, picked_at, bytes_at}
-use Rattle.jlr_fields.specs.Reading.{text_at, is_name_byte}
-use Rattle.jlr_fields.specs.Items.{items_at}
+use Rattle.jlr_trace_fields.specs.declared.fault.Fault.TheVariants.{Range}
+use Rattle.jlr_trace_fields.specs.declared.version.Version.{Version}
+use Rattle.jlr_trace_fields.specs.declared.version.Version.TheVariants.{One, Two}
+use Rattle.jlr_trace_fields.specs.Spelling.{spelled_8, spelled_16, spelled_32, spelled_64, spelled_signed, spelled_text}
+use Rattle.jlr_trace_fields.specs.Spelling.{IsSigned, IsText, IsWithin}
+use Rattle.jlr_trace_fields.specs.Reading.{Reader, ◌>>=◌, one_field, two_fields, three_fields, four_fields, byte_at}
+use Rattle.jlr_trace_fields.specs.Reading.{byte_within_at, number_at, number_within_at, signed_at, picked_at, bytes_at}
+use Rattle.jlr_trace_fields.specs.Reading.{text_at, is_name_byte}
+use Rattle.jlr_trace_fields.specs.Items.{items_at}
 use Rattle.jlr_parts.specs.Tables.{ref_kinds, ref_kind_number, faults, fault_number}
 use Rattle.jlr_parts.specs.Records.{NameFits}
 use Rattle.jlr_asks.specs.declared.tag.Tag.{Tag}

@@ -1,14 +1,14 @@
 //! Numbers of fields, and how many elements an array has.
 ghost use Rattle.std.specs.Prelude.{◌≡◌, ◌++◌, OnOk};
 ghost use Rattle.std.specs.Int.{w16};
-ghost use Rattle.jlr_fields.specs.Spelling.{spelled_16};
-ghost use Rattle.jlr_fields.specs.Reading.{Reads, number_within_at};
+ghost use Rattle.jlr_trace_fields.specs.Spelling.{spelled_16};
+ghost use Rattle.jlr_trace_fields.specs.Reading.{Reads, number_within_at};
 ghost use Rattle.jlr_asks.specs.Asks.{field_read, spelled_field, FieldFits};
 
-use jlr_fields::cursor::{take_u8, take_u16_within};
-use jlr_fields::fault::ReadError;
-use jlr_fields::number::{put_u8, put_u16};
-use jlr_fields::version::Version;
+use jlr_trace_fields::cursor::{take_u8, take_u16_within};
+use jlr_trace_fields::fault::ReadError;
+use jlr_trace_fields::number::{put_u8, put_u16};
+use jlr_trace_fields::version::Version;
 use jlr_types::{FieldNo, Length};
 use std::alloc::AllocError;
 

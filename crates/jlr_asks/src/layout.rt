@@ -1,13 +1,13 @@
 //! Layouts: a count, and the letters r and i.
 ghost use Rattle.std.specs.Prelude.{◌≡◌, ◌≤◌, ◌++◌, OnOk, length, slice_get};
 ghost use Rattle.std.specs.List.{flat_map};
-ghost use Rattle.jlr_fields.specs.Reading.{Reads};
-ghost use Rattle.jlr_fields.specs.Items.{items_at};
+ghost use Rattle.jlr_trace_fields.specs.Reading.{Reads};
+ghost use Rattle.jlr_trace_fields.specs.Items.{items_at};
 ghost use Rattle.jlr_asks.specs.Asks.{kind_read, layout_read, spelled_kind, spelled_kind_at, spelled_layout};
 
-use jlr_fields::cursor::{take_u8, take_within};
-use jlr_fields::fault::{Fault, ReadError};
-use jlr_fields::number::put_u8;
+use jlr_trace_fields::cursor::{take_u8, take_within};
+use jlr_trace_fields::fault::{Fault, ReadError};
+use jlr_trace_fields::number::put_u8;
 use jlr_types::{FieldKind, Layout};
 use std::alloc::AllocError;
 

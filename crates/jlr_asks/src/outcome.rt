@@ -1,14 +1,14 @@
 //! How opens, jobs and calls ended, and what a full collection does.
 ghost use Rattle.std.specs.Prelude.{◌≡◌, ◌++◌, OnOk};
-ghost use Rattle.jlr_fields.specs.Spelling.{spelled_8};
-ghost use Rattle.jlr_fields.specs.Reading.{Reads, picked_at};
+ghost use Rattle.jlr_trace_fields.specs.Spelling.{spelled_8};
+ghost use Rattle.jlr_trace_fields.specs.Reading.{Reads, picked_at};
 ghost use Rattle.jlr_asks.specs.Asks.{outcomes, outcome_number, modes, mode_number, call_outcome_read};
 ghost use Rattle.jlr_asks.specs.Asks.{spelled_call_outcome};
 
-use jlr_fields::cursor::{take_data, take_picked, take_u8, take_within};
-use jlr_fields::fault::{Fault as ByteFault, ReadError};
-use jlr_fields::number::put_u8;
-use jlr_fields::text::put_text;
+use jlr_trace_fields::cursor::{take_data, take_picked, take_u8, take_within};
+use jlr_trace_fields::fault::{Fault as ByteFault, ReadError};
+use jlr_trace_fields::number::put_u8;
+use jlr_trace_fields::text::put_text;
 use jlr_machine::ask::{CallOutcome, FullMode, Outcome};
 use jlr_machine::text::WriteCount;
 use jlr_parts::tables::{put_fault, take_fault};

@@ -7,8 +7,8 @@ ghost use Rattle.jlr_machine.specs.declared.ask.Ask.TheVariants.{Enqueued, MakeQ
 ghost use Rattle.jlr_machine.specs.declared.ask.Ask.TheVariants.{Register, Clean, Prepare, Opened, CheckOut, CheckIn};
 ghost use Rattle.jlr_machine.specs.declared.ask.Ask.TheVariants.{Close, Finish, Bind, Find, Unbind, Names, Full, Stat};
 ghost use Rattle.jlr_machine.specs.declared.ask.Ask.TheVariants.{Notes, Faults};
-ghost use Rattle.jlr_fields.specs.Reading.{Reads, one_field, two_fields, three_fields, four_fields, byte_at, number_at};
-ghost use Rattle.jlr_fields.specs.Reading.{signed_at, picked_at, text_at, is_name_byte};
+ghost use Rattle.jlr_trace_fields.specs.Reading.{Reads, one_field, two_fields, three_fields, four_fields, byte_at, number_at};
+ghost use Rattle.jlr_trace_fields.specs.Reading.{signed_at, picked_at, text_at, is_name_byte};
 ghost use Rattle.jlr_parts.specs.Tables.{ref_kinds};
 ghost use Rattle.jlr_asks.specs.Asks.{outcomes, modes, layout_read, call_outcome_read, field_read, array_read};
 ghost use Rattle.jlr_asks.specs.Asks.{ask_read};
@@ -17,11 +17,11 @@ use crate::field::{field_at, length_at};
 use crate::layout::layout_at;
 use crate::outcome::{call_outcome_at, mode_at, outcome_at};
 use crate::tag::{Tag, tag_at};
-use jlr_fields::cursor::{
+use jlr_trace_fields::cursor::{
     take_action, take_handle, take_i64, take_mutator, take_name, take_u8, take_u32,
 };
-use jlr_fields::fault::{Fault, ReadError};
-use jlr_fields::version::Version;
+use jlr_trace_fields::fault::{Fault, ReadError};
+use jlr_trace_fields::version::Version;
 use jlr_machine::ask::Ask;
 use jlr_parts::tables::take_ref_kind;
 use std::alloc::Global;

@@ -1,10 +1,10 @@
 //! Which ask it is.
 ghost use Rattle.std.specs.Prelude.{◌≡◌};
-ghost use Rattle.jlr_fields.specs.Reading.{Reads, picked_at};
+ghost use Rattle.jlr_trace_fields.specs.Reading.{Reads, picked_at};
 ghost use Rattle.jlr_asks.specs.Asks.{tags};
 
-use jlr_fields::cursor::take_picked;
-use jlr_fields::fault::ReadError;
+use jlr_trace_fields::cursor::take_picked;
+use jlr_trace_fields::fault::ReadError;
 
 /// Which ask it is, in the order of their numbers.
 #[derive(Clone, Copy)]

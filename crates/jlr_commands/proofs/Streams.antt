@@ -3,7 +3,7 @@ use Rattle.std.proofs.Common.{◌≡◌, ℕ, List, length, Option, Some, None, 
 use Rattle.std.specs.Prelude.{IfOk, OnOk}
 use Rattle.jlr_machine.specs.declared.machine.Machine.{Machine}
 use Rattle.jlr_machine.specs.declared.entry.Entry.{Entry}
-use Rattle.jlr_fields.specs.declared.version.Version.{Version}
+use Rattle.jlr_trace_fields.specs.declared.version.Version.{Version}
 use Rattle.jlr_parts.specs.declared.record.Placed.{Placed}
 use Rattle.jlr_trace.specs.declared.file.TraceFault.{TraceFault}
 use Rattle.jlr_trace.specs.declared.window.StreamFault.{StreamFault}

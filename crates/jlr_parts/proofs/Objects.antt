@@ -8,17 +8,17 @@ use Rattle.jlr_types.specs.declared.FieldValue.TheVariants.{Int, Ref}
 use Rattle.jlr_types.specs.declared.Work.TheVariants.{Note, Resource as WorkOn}
 use Rattle.jlr_machine.specs.declared.object.Object.TheVariants.{Plain, Reference, Queue, Cleaner, Cleanable, Guard}
 use Rattle.jlr_machine.specs.declared.object.Contents.TheVariants.{Typed, Elements}
-use Rattle.jlr_fields.specs.declared.version.Version.{Version}
-use Rattle.jlr_fields.specs.declared.version.Version.TheVariants.{One, Two}
-use Rattle.jlr_fields.specs.Reading.{Reader, one_field, option_at, number_within_at}
-use Rattle.jlr_fields.specs.Spelling.{spelled_flag, spelled_16, spelled_option, SlotFits, IsWithin}
-use Rattle.jlr_fields.specs.Items.{items_at}
-use Rattle.jlr_fields.specs.Laws.{TakesBehind, TakesSpelled, ReadsAgain, IsField}
-use Rattle.jlr_fields.proofs.Numbers.{two_bytes, four_bytes, eight_bytes, four_least}
-use Rattle.jlr_fields.proofs.Basics.{byte, within, number_within, flag, option, signed}
-use Rattle.jlr_fields.proofs.Lists.{items_take, items_again, list_field}
-use Rattle.jlr_fields.proofs.Products.{then_takes, made_takes, one_takes, two_takes, four_takes, then_again, one_again, two_again}
-use Rattle.jlr_fields.proofs.Products.{four_again}
+use Rattle.jlr_trace_fields.specs.declared.version.Version.{Version}
+use Rattle.jlr_trace_fields.specs.declared.version.Version.TheVariants.{One, Two}
+use Rattle.jlr_trace_fields.specs.Reading.{Reader, one_field, option_at, number_within_at}
+use Rattle.jlr_trace_fields.specs.Spelling.{spelled_flag, spelled_16, spelled_option, SlotFits, IsWithin}
+use Rattle.jlr_trace_fields.specs.Items.{items_at}
+use Rattle.jlr_trace_fields.specs.Laws.{TakesBehind, TakesSpelled, ReadsAgain, IsField}
+use Rattle.jlr_trace_fields.proofs.Numbers.{two_bytes, four_bytes, eight_bytes, four_least}
+use Rattle.jlr_trace_fields.proofs.Basics.{byte, within, number_within, flag, option, signed}
+use Rattle.jlr_trace_fields.proofs.Lists.{items_take, items_again, list_field}
+use Rattle.jlr_trace_fields.proofs.Products.{then_takes, made_takes, one_takes, two_takes, four_takes, then_again, one_again, two_again}
+use Rattle.jlr_trace_fields.proofs.Products.{four_again}
 use Rattle.jlr_parts.specs.Objects.{spelled_value, ValueFits, value_behind, value_read, spelled_work, WorkFits, work_behind, work_read}
 use Rattle.jlr_parts.specs.Objects.{spelled_object, ElementsFit, ObjectFits, typed, plain_read, array, array_read, array_in, reference_read}
 use Rattle.jlr_parts.specs.Objects.{queue_read, cleanable_read, guard_read, object_behind, object_read}

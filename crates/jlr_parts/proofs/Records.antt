@@ -14,15 +14,15 @@ use Rattle.jlr_machine.specs.declared.machine.Job.{Job}
 use Rattle.jlr_machine.specs.declared.machine.Resource.{Resource}
 use Rattle.jlr_machine.specs.declared.machine.ResourceState.{ResourceState}
 use Rattle.jlr_machine.specs.declared.machine.Call.TheVariants.{Free, Opening as CallOpening, Out as CallOut, Job as CallJob}
-use Rattle.jlr_fields.specs.declared.fault.Fault.TheVariants.{Range}
-use Rattle.jlr_fields.specs.declared.version.Version.{Version}
-use Rattle.jlr_fields.specs.Reading.{Reader, ◌>>=◌, text_at, is_name_byte}
-use Rattle.jlr_fields.specs.Spelling.{spelled_8, spelled_32, spelled_64, spelled_text}
-use Rattle.jlr_fields.specs.Items.{may_follow}
-use Rattle.jlr_fields.specs.Laws.{TakesBehind, TakesSpelled, ReadsAgain, IsField, IsLeast, FollowsWith, IsRisingField}
-use Rattle.jlr_fields.proofs.Numbers.{four_bytes, eight_bytes}
-use Rattle.jlr_fields.proofs.Basics.{byte, text}
-use Rattle.jlr_fields.proofs.Products.{then_takes, made_takes, one_takes, two_takes, then_again, one_again, two_again}
+use Rattle.jlr_trace_fields.specs.declared.fault.Fault.TheVariants.{Range}
+use Rattle.jlr_trace_fields.specs.declared.version.Version.{Version}
+use Rattle.jlr_trace_fields.specs.Reading.{Reader, ◌>>=◌, text_at, is_name_byte}
+use Rattle.jlr_trace_fields.specs.Spelling.{spelled_8, spelled_32, spelled_64, spelled_text}
+use Rattle.jlr_trace_fields.specs.Items.{may_follow}
+use Rattle.jlr_trace_fields.specs.Laws.{TakesBehind, TakesSpelled, ReadsAgain, IsField, IsLeast, FollowsWith, IsRisingField}
+use Rattle.jlr_trace_fields.proofs.Numbers.{four_bytes, eight_bytes}
+use Rattle.jlr_trace_fields.proofs.Basics.{byte, text}
+use Rattle.jlr_trace_fields.proofs.Products.{then_takes, made_takes, one_takes, two_takes, then_again, one_again, two_again}
 use Rattle.jlr_parts.specs.declared.record.Placed.{Placed}
 use Rattle.jlr_parts.specs.declared.record.Held.{Held}
 use Rattle.jlr_parts.specs.Tables.{resource_state_number}

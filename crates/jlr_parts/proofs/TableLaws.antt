@@ -10,10 +10,10 @@ use Rattle.jlr_machine.specs.declared.object.CleanState.{CleanState}
 use Rattle.jlr_machine.specs.declared.object.CleanState.TheVariants.{Armed, Pending as PendingClean, Lined, Spent}
 use Rattle.jlr_machine.specs.declared.machine.ResourceState.{ResourceState}
 use Rattle.jlr_machine.specs.declared.machine.ResourceState.TheVariants.{Opening, Idle, Out, Closing}
-use Rattle.jlr_fields.specs.Reading.{picked_at}
-use Rattle.jlr_fields.specs.Spelling.{spelled_8}
-use Rattle.jlr_fields.specs.Laws.{IsField}
-use Rattle.jlr_fields.proofs.Basics.{picked}
+use Rattle.jlr_trace_fields.specs.Reading.{picked_at}
+use Rattle.jlr_trace_fields.specs.Spelling.{spelled_8}
+use Rattle.jlr_trace_fields.specs.Laws.{IsField}
+use Rattle.jlr_trace_fields.proofs.Basics.{picked}
 use Rattle.jlr_parts.specs.Tables.{ref_kinds, ref_kind_number, ref_states, ref_state_number, clean_states, clean_state_number}
 use Rattle.jlr_parts.specs.Tables.{resource_states, resource_state_number, faults, fault_number}
 

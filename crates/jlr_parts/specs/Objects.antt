@@ -14,14 +14,14 @@ use Rattle.jlr_machine.specs.declared.object.Contents.TheVariants.{Typed, Elemen
 use Rattle.jlr_machine.specs.declared.object.Reference.{Reference as ReferenceOf}
 use Rattle.jlr_machine.specs.declared.object.Cleanable.{Cleanable as CleanableOf}
 use Rattle.jlr_machine.specs.declared.object.Guard.{Guard as GuardOf}
-use Rattle.jlr_fields.specs.declared.fault.Fault.TheVariants.{Range}
-use Rattle.jlr_fields.specs.declared.version.Version.{Version}
-use Rattle.jlr_fields.specs.declared.version.Version.TheVariants.{One, Two}
-use Rattle.jlr_fields.specs.Spelling.{spelled_8, spelled_16, spelled_32, spelled_64, spelled_signed, spelled_option}
-use Rattle.jlr_fields.specs.Spelling.{IsSigned, IsWithin, SlotFits}
-use Rattle.jlr_fields.specs.Reading.{Reader, ◌>>=◌, one_field, two_fields, four_fields, byte_at, byte_within_at}
-use Rattle.jlr_fields.specs.Reading.{number_at, number_within_at, signed_at, flag_at, option_at, picked_at}
-use Rattle.jlr_fields.specs.Items.{items_at, list_at, spelled_list, IsListed}
+use Rattle.jlr_trace_fields.specs.declared.fault.Fault.TheVariants.{Range}
+use Rattle.jlr_trace_fields.specs.declared.version.Version.{Version}
+use Rattle.jlr_trace_fields.specs.declared.version.Version.TheVariants.{One, Two}
+use Rattle.jlr_trace_fields.specs.Spelling.{spelled_8, spelled_16, spelled_32, spelled_64, spelled_signed, spelled_option}
+use Rattle.jlr_trace_fields.specs.Spelling.{IsSigned, IsWithin, SlotFits}
+use Rattle.jlr_trace_fields.specs.Reading.{Reader, ◌>>=◌, one_field, two_fields, four_fields, byte_at, byte_within_at}
+use Rattle.jlr_trace_fields.specs.Reading.{number_at, number_within_at, signed_at, flag_at, option_at, picked_at}
+use Rattle.jlr_trace_fields.specs.Items.{items_at, list_at, spelled_list, IsListed}
 use Rattle.jlr_parts.specs.Tables.{ref_kinds, ref_kind_number, ref_states, ref_state_number, clean_states}
 use Rattle.jlr_parts.specs.Tables.{clean_state_number}
 

@@ -8,12 +8,12 @@ use Rattle.jlr_machine.specs.declared.machine.Resource.{Resource}
 use Rattle.jlr_machine.specs.declared.machine.Call.{Call}
 use Rattle.jlr_machine.specs.declared.machine.Call.TheVariants.{Free, Opening as CallOpening, Out as CallOut}
 use Rattle.jlr_machine.specs.declared.machine.Call.TheVariants.{Job as CallJob}
-use Rattle.jlr_fields.specs.declared.fault.Fault.TheVariants.{Range}
-use Rattle.jlr_fields.specs.declared.version.Version.{Version}
-use Rattle.jlr_fields.specs.Spelling.{spelled_8, spelled_32, spelled_64, spelled_text, IsTextOf}
-use Rattle.jlr_fields.specs.Reading.{Reader, ◌>>=◌, one_field, two_fields, byte_at, number_at, picked_at, text_at}
-use Rattle.jlr_fields.specs.Reading.{is_name_byte}
-use Rattle.jlr_fields.specs.Items.{may_follow}
+use Rattle.jlr_trace_fields.specs.declared.fault.Fault.TheVariants.{Range}
+use Rattle.jlr_trace_fields.specs.declared.version.Version.{Version}
+use Rattle.jlr_trace_fields.specs.Spelling.{spelled_8, spelled_32, spelled_64, spelled_text, IsTextOf}
+use Rattle.jlr_trace_fields.specs.Reading.{Reader, ◌>>=◌, one_field, two_fields, byte_at, number_at, picked_at, text_at}
+use Rattle.jlr_trace_fields.specs.Reading.{is_name_byte}
+use Rattle.jlr_trace_fields.specs.Items.{may_follow}
 use Rattle.jlr_parts.specs.declared.record.Placed.{Placed}
 use Rattle.jlr_parts.specs.declared.record.Held.{Held}
 use Rattle.jlr_parts.specs.Tables.{faults, fault_number, resource_states, resource_state_number}

@@ -1,13 +1,13 @@
 //! Lists: a count, and that many items.
 ghost use Rattle.std.specs.Prelude.{◌≡◌, ◌<◌, ◌^◌, ◌++◌, OnOk, length};
 ghost use Rattle.std.specs.List.{flat_map, AllByRecursion};
-ghost use Rattle.jlr_fields.specs.Reading.{Reads};
-ghost use Rattle.jlr_fields.specs.Items.{items_at, list_at, spelled_list};
+ghost use Rattle.jlr_trace_fields.specs.Reading.{Reads};
+ghost use Rattle.jlr_trace_fields.specs.Items.{items_at, list_at, spelled_list};
 
-use jlr_fields::cursor::{take_name, take_option, take_slot, take_u32};
-use jlr_fields::fault::{Fault, ReadError};
-use jlr_fields::number::{put_option, put_slot, put_u32};
-use jlr_fields::text::put_text;
+use jlr_trace_fields::cursor::{take_name, take_option, take_slot, take_u32};
+use jlr_trace_fields::fault::{Fault, ReadError};
+use jlr_trace_fields::number::{put_option, put_slot, put_u32};
+use jlr_trace_fields::text::put_text;
 use jlr_machine::items::Items;
 use jlr_machine::text::Name;
 use jlr_types::Slot;
@@ -16,7 +16,7 @@ use std::alloc::{AllocError, Global};
 /// What is read from a list.
 pub trait Item: Sized {
     ghost use Rattle.std.specs.Prelude.{ℕ, ◌≡◌};
-    ghost use Rattle.jlr_fields.specs.Reading.{Reader, Reads};
+    ghost use Rattle.jlr_trace_fields.specs.Reading.{Reader, Reads};
 
     ghost read_at: { Reader Self };
 
@@ -62,7 +62,7 @@ pub fn take_items<T: Item + Drop>(
 }
 
 /// A list. One that cannot fit in the bytes that are left is short, and takes no memory.
-#[tactic(auto, unfolding(jlr_fields::specs::Items::list_at))]
+#[tactic(auto, unfolding(jlr_trace_fields::specs::Items::list_at))]
 pub fn take_list<T: Item + Drop>(alloc: Global, bytes: &mut &[u8]) -> Result<Items<T>, ReadError>
     requires { T.LEAST < 256 }
     ensures { Reads (λ x. x) result bytes.new.now (list_at T.LEAST T.read_at bytes.old.now) }
@@ -97,7 +97,7 @@ pub fn put_list<T: Written>(out: &mut Vec<u8>, items: &[T]) -> Result<(), AllocE
 
 impl Item for Slot {
     ghost use Rattle.std.specs.Int.{w32};
-    ghost use Rattle.jlr_fields.specs.Reading.{number_at};
+    ghost use Rattle.jlr_trace_fields.specs.Reading.{number_at};
 
     ghost read_at = { number_at w32 };
 
@@ -111,7 +111,7 @@ impl Item for Slot {
 }
 
 impl Written for Slot {
-    ghost use Rattle.jlr_fields.specs.Spelling.{spelled_32};
+    ghost use Rattle.jlr_trace_fields.specs.Spelling.{spelled_32};
 
     ghost spelled = { spelled_32 };
 
@@ -123,7 +123,7 @@ impl Written for Slot {
 }
 
 impl Item for Option<Slot> {
-    ghost use Rattle.jlr_fields.specs.Reading.{option_at};
+    ghost use Rattle.jlr_trace_fields.specs.Reading.{option_at};
 
     ghost read_at = { option_at };
 
@@ -137,7 +137,7 @@ impl Item for Option<Slot> {
 }
 
 impl Written for Option<Slot> {
-    ghost use Rattle.jlr_fields.specs.Spelling.{spelled_option};
+    ghost use Rattle.jlr_trace_fields.specs.Spelling.{spelled_option};
 
     ghost spelled = { spelled_option };
 
@@ -150,7 +150,7 @@ impl Written for Option<Slot> {
 
 impl Item for u32 {
     ghost use Rattle.std.specs.Int.{w32};
-    ghost use Rattle.jlr_fields.specs.Reading.{number_at};
+    ghost use Rattle.jlr_trace_fields.specs.Reading.{number_at};
 
     ghost read_at = { number_at w32 };
 
@@ -164,7 +164,7 @@ impl Item for u32 {
 }
 
 impl Written for u32 {
-    ghost use Rattle.jlr_fields.specs.Spelling.{spelled_32};
+    ghost use Rattle.jlr_trace_fields.specs.Spelling.{spelled_32};
 
     ghost spelled = { spelled_32 };
 
@@ -176,7 +176,7 @@ impl Written for u32 {
 }
 
 impl Item for Name {
-    ghost use Rattle.jlr_fields.specs.Reading.{text_at, is_name_byte};
+    ghost use Rattle.jlr_trace_fields.specs.Reading.{text_at, is_name_byte};
 
     ghost read_at = { text_at 1 32 is_name_byte };
 
@@ -190,7 +190,7 @@ impl Item for Name {
 }
 
 impl Written for Name {
-    ghost use Rattle.jlr_fields.specs.Spelling.{spelled_text};
+    ghost use Rattle.jlr_trace_fields.specs.Spelling.{spelled_text};
 
     ghost spelled = { spelled_text };
 

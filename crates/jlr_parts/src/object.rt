@@ -1,8 +1,8 @@
 //! Objects.
 ghost use Rattle.std.specs.Prelude.{◌≡◌, ◌≤◌, ◌∷◌, ◌++◌, OnOk, length};
 ghost use Rattle.std.specs.List.{flat_map};
-ghost use Rattle.jlr_fields.specs.Reading.{Reads};
-ghost use Rattle.jlr_fields.specs.Spelling.{spelled_16, spelled_option};
+ghost use Rattle.jlr_trace_fields.specs.Reading.{Reads};
+ghost use Rattle.jlr_trace_fields.specs.Spelling.{spelled_16, spelled_option};
 ghost use Rattle.jlr_parts.specs.Objects.{value_read, spelled_value, work_read, spelled_work, plain_read, array_read};
 ghost use Rattle.jlr_parts.specs.Objects.{array_in as array_of, reference_read, queue_read, cleanable_read, guard_read};
 ghost use Rattle.jlr_parts.specs.Objects.{object_read, spelled_contents, spelled_object, spelled_reference};
@@ -12,13 +12,13 @@ use crate::items::{Item, Written, put_each, put_list, take_items, take_list};
 use crate::tables::{
     put_clean_state, put_ref_kind, put_ref_state, take_clean_state, take_ref_kind, take_ref_state,
 };
-use jlr_fields::cursor::{
+use jlr_trace_fields::cursor::{
     take_action, take_flag, take_i64, take_option, take_rid, take_slot, take_u8, take_u16_within,
     take_u32, take_within,
 };
-use jlr_fields::fault::{Fault, ReadError};
-use jlr_fields::number::{put_i64, put_option, put_slot, put_u8, put_u16, put_u32, put_u64};
-use jlr_fields::version::Version;
+use jlr_trace_fields::fault::{Fault, ReadError};
+use jlr_trace_fields::number::{put_i64, put_option, put_slot, put_u8, put_u16, put_u32, put_u64};
+use jlr_trace_fields::version::Version;
 use jlr_machine::object::{Cleanable, Contents, Elements, Fields, Guard, Object, Reference};
 use jlr_types::{FieldValue, Slot, Work};
 use std::alloc::{AllocError, Global};

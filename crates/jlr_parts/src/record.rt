@@ -1,7 +1,7 @@
 //! The records of an image: bindings, failures, calls, and those with rising keys.
 ghost use Rattle.std.specs.Prelude.{◌≡◌, ◌++◌, OnOk};
-ghost use Rattle.jlr_fields.specs.Reading.{Reads};
-ghost use Rattle.jlr_fields.specs.Spelling.{spelled_32};
+ghost use Rattle.jlr_trace_fields.specs.Reading.{Reads};
+ghost use Rattle.jlr_trace_fields.specs.Spelling.{spelled_32};
 ghost use Rattle.jlr_parts.specs.Objects.{ObjectCounts, spelled_object};
 ghost use Rattle.jlr_parts.specs.Records.{call_read, spelled_call, placed_after};
 
@@ -9,13 +9,13 @@ use crate::items::{Item, Written};
 use crate::object::{object_at, put_object, put_work, take_work};
 use crate::rising::{Keyed, follows};
 use crate::tables::{put_fault, put_resource_state, take_fault, take_resource_state};
-use jlr_fields::cursor::{
+use jlr_trace_fields::cursor::{
     take_action, take_handle, take_name, take_rid, take_slot, take_u8, take_u32,
 };
-use jlr_fields::fault::{Fault, ReadError};
-use jlr_fields::number::{put_slot, put_u8, put_u32, put_u64};
-use jlr_fields::text::put_text;
-use jlr_fields::version::Version;
+use jlr_trace_fields::fault::{Fault, ReadError};
+use jlr_trace_fields::number::{put_slot, put_u8, put_u32, put_u64};
+use jlr_trace_fields::text::put_text;
+use jlr_trace_fields::version::Version;
 use jlr_machine::machine::{Binding, Call, Failure, Job, Resource};
 use jlr_machine::object::Object;
 use jlr_types::{Handle, Slot};

@@ -1,10 +1,10 @@
 //! Lists whose keys rise.
 ghost use Rattle.std.specs.Prelude.{◌≡◌, ◌<◌, None};
-ghost use Rattle.jlr_fields.specs.Reading.{Reads};
-ghost use Rattle.jlr_fields.specs.Items.{may_follow, rising_items_at, rising_at};
+ghost use Rattle.jlr_trace_fields.specs.Reading.{Reads};
+ghost use Rattle.jlr_trace_fields.specs.Items.{may_follow, rising_items_at, rising_at};
 
-use jlr_fields::cursor::{take_slot, take_u32};
-use jlr_fields::fault::{Fault, ReadError};
+use jlr_trace_fields::cursor::{take_slot, take_u32};
+use jlr_trace_fields::fault::{Fault, ReadError};
 use jlr_machine::items::Items;
 use jlr_types::Slot;
 use std::alloc::Global;
@@ -12,7 +12,7 @@ use std::alloc::Global;
 /// What is read from a list whose keys rise.
 pub trait Keyed: Sized {
     ghost use Rattle.std.specs.Prelude.{ℕ, Option, ◌≡◌};
-    ghost use Rattle.jlr_fields.specs.Reading.{Reader, Reads};
+    ghost use Rattle.jlr_trace_fields.specs.Reading.{Reader, Reads};
 
     ghost read_after: { Option ℕ → Reader Self };
 
@@ -62,7 +62,7 @@ fn take_rising_items<T: Keyed + Drop>(
 }
 
 /// A list whose keys rise. One that cannot fit in the bytes that are left is short, and takes no memory.
-#[tactic(auto, unfolding(jlr_fields::specs::Items::rising_at))]
+#[tactic(auto, unfolding(jlr_trace_fields::specs::Items::rising_at))]
 pub fn take_rising<T: Keyed + Drop>(alloc: Global, bytes: &mut &[u8]) -> Result<Items<T>, ReadError>
     requires { T.LEAST < 256 }
     ensures { Reads (λ x. x) result bytes.new.now (rising_at T.LEAST T.read_after T.key_of bytes.old.now) }

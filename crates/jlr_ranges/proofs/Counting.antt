@@ -8,7 +8,7 @@ use Rattle.std.proofs.lemmas.Map.Steps.{length-le_from_distinct_below}
 use Rattle.jlr_machine.specs.Objects.{◌∈◌, ◌∋◌, is_distinct, is_rising, is_above}
 use Rattle.jlr_laws.proofs.Keyed.{by_key, no_some}
 use Rattle.jlr_laws.proofs.Sets.{in_front, in_rest, in_cons}
-use Rattle.jlr_fields.specs.Items.{Rises}
+use Rattle.jlr_trace_fields.specs.Items.{Rises}
 
 -- ---- Lists without repeats
 

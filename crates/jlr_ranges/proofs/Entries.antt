@@ -30,8 +30,8 @@ use Rattle.jlr_laws.proofs.Paths.{reached_below, reached_complete}
 use Rattle.jlr_histories.specs.Rooms.{Rooms, Fits, HasRoomFor}
 use Rattle.jlr_histories.proofs.Fitting.{answers_fit}
 use Rattle.jlr_histories.proofs.Collecting.{new_objects_fit}
-use Rattle.jlr_fields.specs.declared.version.Version.TheVariants.{Two}
-use Rattle.jlr_fields.specs.Items.{Rises}
+use Rattle.jlr_trace_fields.specs.declared.version.Version.TheVariants.{Two}
+use Rattle.jlr_trace_fields.specs.Items.{Rises}
 use Rattle.jlr_answers.specs.Answers.{AnswerFits}
 use Rattle.jlr_sections.specs.Choices.{SlotIs, itself, CollectedFits, CollectionFits, ChoiceFits}
 use Rattle.jlr_sections.specs.Entries.{EntryFits}

@@ -16,8 +16,8 @@ use Rattle.jlr_machine.specs.Edges.{roots, active_cleanables}
 use Rattle.jlr_machine.specs.WellFormed.{IsWellFormed, IsSessionAt, FitsItsCall}
 use Rattle.jlr_laws.proofs.Clearing.{in_left, in_right}
 use Rattle.jlr_laws.proofs.Frames.{place_within}
-use Rattle.jlr_fields.specs.declared.version.Version.TheVariants.{Two}
-use Rattle.jlr_fields.specs.Items.{IsRising}
+use Rattle.jlr_trace_fields.specs.declared.version.Version.TheVariants.{Two}
+use Rattle.jlr_trace_fields.specs.Items.{IsRising}
 use Rattle.jlr_parts.specs.declared.record.Held.{Held}
 use Rattle.jlr_parts.specs.declared.record.Placed.{Placed}
 use Rattle.jlr_parts.specs.Records.{PlacedFits}

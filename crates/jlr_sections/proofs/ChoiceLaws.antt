@@ -6,15 +6,15 @@ use Rattle.std.specs.Int.{w32}
 use Rattle.std.specs.Prelude.{◌%◌, nat_eq, nat_le}
 use Rattle.jlr_machine.specs.declared.entry.Collected.{Collected}
 use Rattle.jlr_machine.specs.Chosen.{Chosen}
-use Rattle.jlr_fields.specs.Spelling.{spelled_32, IsWithin}
-use Rattle.jlr_fields.specs.Reading.{Reader, one_field, two_fields, number_at, byte_within_at}
-use Rattle.jlr_fields.specs.Items.{items_at}
-use Rattle.jlr_fields.specs.Laws.{TakesBehind, TakesSpelled, ReadsAgain, IsField}
-use Rattle.jlr_fields.proofs.Numbers.{four_bytes, four_least}
-use Rattle.jlr_fields.proofs.Basics.{within}
-use Rattle.jlr_fields.proofs.Lists.{list_field, items_take, items_again}
-use Rattle.jlr_fields.proofs.Rising.{rising_field}
-use Rattle.jlr_fields.proofs.Products.{then_takes, made_takes, one_takes, two_takes, then_again, one_again, two_again}
+use Rattle.jlr_trace_fields.specs.Spelling.{spelled_32, IsWithin}
+use Rattle.jlr_trace_fields.specs.Reading.{Reader, one_field, two_fields, number_at, byte_within_at}
+use Rattle.jlr_trace_fields.specs.Items.{items_at}
+use Rattle.jlr_trace_fields.specs.Laws.{TakesBehind, TakesSpelled, ReadsAgain, IsField}
+use Rattle.jlr_trace_fields.proofs.Numbers.{four_bytes, four_least}
+use Rattle.jlr_trace_fields.proofs.Basics.{within}
+use Rattle.jlr_trace_fields.proofs.Lists.{list_field, items_take, items_again}
+use Rattle.jlr_trace_fields.proofs.Rising.{rising_field}
+use Rattle.jlr_trace_fields.proofs.Products.{then_takes, made_takes, one_takes, two_takes, then_again, one_again, two_again}
 use Rattle.jlr_parts.proofs.Records.{rising_slot}
 use Rattle.jlr_sections.specs.Choices.{SlotIs, spelled_collected, CollectedFits, collected_read, spelled_collection, CollectionFits}
 use Rattle.jlr_sections.specs.Choices.{collection_read, spelled_fresh, FreshFits, fresh_read, flags_of, spelled_choice, ChoiceFits}

@@ -1,9 +1,9 @@
 -- Entries: what is read is what was written, and what was written is read again.
 use Rattle.std.proofs.Common.{[], refl}
-use Rattle.jlr_fields.specs.declared.version.Version.{Version}
-use Rattle.jlr_fields.specs.Laws.{TakesSpelled, ReadsAgain, IsField}
-use Rattle.jlr_fields.proofs.Basics.{byte}
-use Rattle.jlr_fields.proofs.Products.{four_takes, four_again}
+use Rattle.jlr_trace_fields.specs.declared.version.Version.{Version}
+use Rattle.jlr_trace_fields.specs.Laws.{TakesSpelled, ReadsAgain, IsField}
+use Rattle.jlr_trace_fields.proofs.Basics.{byte}
+use Rattle.jlr_trace_fields.proofs.Products.{four_takes, four_again}
 use Rattle.jlr_asks.proofs.Asks.{ask}
 use Rattle.jlr_answers.proofs.Answers.{answer}
 use Rattle.jlr_sections.specs.Entries.{spelled_entry, EntryFits, made_entry, entry_read}

@@ -1,8 +1,8 @@
 -- The slots of new objects that are read are at most two.
 use Rattle.std.proofs.Common.{◌≡◌, ℕ, zero, suc, List, [], ◌∷◌, length, Ok, refl, ap, subst}
-use Rattle.jlr_fields.specs.Reading.{Reader, ◌>>=◌}
-use Rattle.jlr_fields.specs.Items.{items_at}
-use Rattle.jlr_fields.proofs.Steps.{bind_ok, ok_is}
+use Rattle.jlr_trace_fields.specs.Reading.{Reader, ◌>>=◌}
+use Rattle.jlr_trace_fields.specs.Items.{items_at}
+use Rattle.jlr_trace_fields.proofs.Steps.{bind_ok, ok_is}
 
 pub items_counted : {A : Type 0} (read : Reader A) (n : ℕ) (bytes : List ℕ) (xs : List A) (rest : List ℕ)
     → items_at read n bytes ≡ Ok (xs, rest) → length xs ≡ n

@@ -7,17 +7,17 @@ use Rattle.jlr_machine.specs.declared.machine.Binding.{Binding}
 use Rattle.jlr_machine.specs.declared.machine.Failure.{Failure}
 use Rattle.jlr_machine.specs.declared.machine.Job.{Job}
 use Rattle.jlr_machine.specs.declared.machine.Resource.{Resource}
-use Rattle.jlr_fields.specs.declared.version.Version.{Version}
-use Rattle.jlr_fields.specs.Spelling.{spelled_flag, IsWithin}
-use Rattle.jlr_fields.specs.Reading.{Reader, number_within_at}
-use Rattle.jlr_fields.specs.Items.{items_at, spelled_list}
-use Rattle.jlr_fields.specs.Laws.{TakesBehind, TakesSpelled, ReadsAgain, IsField}
-use Rattle.jlr_fields.proofs.Numbers.{two_bytes, four_bytes, eight_bytes, four_least}
-use Rattle.jlr_fields.proofs.Basics.{within, number_within, flag, option}
-use Rattle.jlr_fields.proofs.Lists.{list_field, items_take, items_again}
-use Rattle.jlr_fields.proofs.Rising.{rising_field}
-use Rattle.jlr_fields.proofs.Products.{then_takes, made_takes, three_takes, four_takes, five_takes, then_again, three_again, four_again}
-use Rattle.jlr_fields.proofs.Products.{five_again}
+use Rattle.jlr_trace_fields.specs.declared.version.Version.{Version}
+use Rattle.jlr_trace_fields.specs.Spelling.{spelled_flag, IsWithin}
+use Rattle.jlr_trace_fields.specs.Reading.{Reader, number_within_at}
+use Rattle.jlr_trace_fields.specs.Items.{items_at, spelled_list}
+use Rattle.jlr_trace_fields.specs.Laws.{TakesBehind, TakesSpelled, ReadsAgain, IsField}
+use Rattle.jlr_trace_fields.proofs.Numbers.{two_bytes, four_bytes, eight_bytes, four_least}
+use Rattle.jlr_trace_fields.proofs.Basics.{within, number_within, flag, option}
+use Rattle.jlr_trace_fields.proofs.Lists.{list_field, items_take, items_again}
+use Rattle.jlr_trace_fields.proofs.Rising.{rising_field}
+use Rattle.jlr_trace_fields.proofs.Products.{then_takes, made_takes, three_takes, four_takes, five_takes, then_again, three_again, four_again}
+use Rattle.jlr_trace_fields.proofs.Products.{five_again}
 use Rattle.jlr_parts.proofs.Records.{binding, binding_least, failure, failure_least, call, rising_job, job_least, rising_resource}
 use Rattle.jlr_parts.proofs.Records.{resource_least, rising_placed, placed_least, rising_held, held_least}
 use Rattle.jlr_parts.specs.Records.{spelled_placed}

@@ -12,13 +12,13 @@ use Rattle.std.proofs.lemmas.Grind.{replicate_next}
 use Rattle.std.proofs.Math.Seq.{take-suc, drop-cons}
 use Rattle.jlr_machine.specs.declared.object.Object.{Object}
 use Rattle.std.specs.Int.{w32}
-use Rattle.jlr_fields.specs.declared.fault.Fault.TheVariants.{Short, Range}
-use Rattle.jlr_fields.specs.declared.version.Version.{Version}
-use Rattle.jlr_fields.specs.Reading.{◌>>=◌, byte_at, number_at}
-use Rattle.jlr_fields.specs.Items.{may_follow, rising_items_at, rising_at, Rises}
-use Rattle.jlr_fields.specs.declared.fault.Fault.{Fault}
-use Rattle.jlr_fields.proofs.Steps.{bind_ok, ok_is}
-use Rattle.jlr_fields.proofs.Lists.{guard_not}
+use Rattle.jlr_trace_fields.specs.declared.fault.Fault.TheVariants.{Short, Range}
+use Rattle.jlr_trace_fields.specs.declared.version.Version.{Version}
+use Rattle.jlr_trace_fields.specs.Reading.{◌>>=◌, byte_at, number_at}
+use Rattle.jlr_trace_fields.specs.Items.{may_follow, rising_items_at, rising_at, Rises}
+use Rattle.jlr_trace_fields.specs.declared.fault.Fault.{Fault}
+use Rattle.jlr_trace_fields.proofs.Steps.{bind_ok, ok_is}
+use Rattle.jlr_trace_fields.proofs.Lists.{guard_not}
 use Rattle.jlr_parts.specs.Objects.{object_read}
 use Rattle.jlr_parts.specs.Records.{held_behind, held_after, placed_behind, placed_after}
 use Rattle.jlr_parts.specs.declared.record.Placed.{Placed}

@@ -7,11 +7,11 @@ use Rattle.jlr_machine.specs.declared.object.Object.{Object}
 use Rattle.jlr_machine.specs.declared.machine.Call.{Call}
 use Rattle.jlr_machine.specs.declared.machine.Session.{Session}
 use Rattle.jlr_machine.specs.declared.machine.Machine.{Machine}
-use Rattle.jlr_fields.specs.declared.version.Version.{Version}
-use Rattle.jlr_fields.specs.Spelling.{spelled_8, spelled_16, spelled_32, spelled_64, spelled_option, IsWithin, SlotFits}
-use Rattle.jlr_fields.specs.Reading.{Reader, ◌>>=◌, three_fields, four_fields, five_fields, byte_within_at, number_at}
-use Rattle.jlr_fields.specs.Reading.{number_within_at, flag_at, option_at}
-use Rattle.jlr_fields.specs.Items.{items_at, list_at, rising_at, spelled_list, IsListed, IsRising}
+use Rattle.jlr_trace_fields.specs.declared.version.Version.{Version}
+use Rattle.jlr_trace_fields.specs.Spelling.{spelled_8, spelled_16, spelled_32, spelled_64, spelled_option, IsWithin, SlotFits}
+use Rattle.jlr_trace_fields.specs.Reading.{Reader, ◌>>=◌, three_fields, four_fields, five_fields, byte_within_at, number_at}
+use Rattle.jlr_trace_fields.specs.Reading.{number_within_at, flag_at, option_at}
+use Rattle.jlr_trace_fields.specs.Items.{items_at, list_at, rising_at, spelled_list, IsListed, IsRising}
 use Rattle.jlr_parts.specs.declared.record.Placed.{Placed}
 use Rattle.jlr_parts.specs.declared.record.Held.{Held}
 use Rattle.jlr_parts.specs.Records.{spelled_binding, BindingFits, binding_read, spelled_failure, FailureFits}

@@ -5,7 +5,7 @@ use Rattle.jlr_machine.specs.Objects.{occupied}
 use Rattle.jlr_machine.specs.declared.object.Object.{Object}
 use Rattle.jlr_machine.specs.declared.machine.Session.{Session}
 use Rattle.jlr_machine.specs.declared.machine.Machine.{Machine}
-use Rattle.jlr_fields.specs.Items.{spelled_list}
+use Rattle.jlr_trace_fields.specs.Items.{spelled_list}
 use Rattle.jlr_parts.specs.declared.record.Placed.{Placed}
 use Rattle.jlr_parts.specs.Objects.{ObjectCounts}
 use Rattle.jlr_parts.specs.Records.{spelled_held, spelled_placed, PlacedCounts}

@@ -1,15 +1,15 @@
 //! What was chosen in an entry. Only this file knows how kept, pending and fresh slots lie in memory.
 ghost use Rattle.std.specs.Prelude.{◌≡◌, ◌≤◌, ◌<◌, ◌++◌, OnOk, length};
-ghost use Rattle.jlr_fields.specs.Reading.{Reads};
-ghost use Rattle.jlr_fields.specs.Items.{rising_at};
+ghost use Rattle.jlr_trace_fields.specs.Reading.{Reads};
+ghost use Rattle.jlr_trace_fields.specs.Items.{rising_at};
 ghost use Rattle.jlr_parts.specs.Records.{slot_after};
 ghost use Rattle.jlr_sections.specs.Choices.{itself, collected_read, collection_read, fresh_read, choice_read};
 ghost use Rattle.jlr_sections.specs.Choices.{flags_of as flags_of_choice, spelled_collection, CollectionCounts};
 ghost use Rattle.jlr_sections.specs.Choices.{spelled_fresh, spelled_choice, ChoiceCounts};
 
-use jlr_fields::cursor::take_within;
-use jlr_fields::fault::ReadError;
-use jlr_fields::number::put_u8;
+use jlr_trace_fields::cursor::take_within;
+use jlr_trace_fields::fault::ReadError;
+use jlr_trace_fields::number::put_u8;
 use jlr_machine::entry::{Chosen, Collected};
 use jlr_machine::fresh::FreshSlots;
 use jlr_machine::items::Items;

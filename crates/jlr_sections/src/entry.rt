@@ -1,6 +1,6 @@
 //! An entry: who asked, the ask, its answer, and what was chosen.
 ghost use Rattle.std.specs.Prelude.{◌≡◌, ◌++◌, OnOk};
-ghost use Rattle.jlr_fields.specs.Reading.{Reads};
+ghost use Rattle.jlr_trace_fields.specs.Reading.{Reads};
 ghost use Rattle.jlr_sections.specs.Entries.{entry_read, spelled_entry, EntryCounts};
 
 use crate::choice::{choice_at, put_choice};
@@ -8,10 +8,10 @@ use jlr_answers::reading::take_answer;
 use jlr_answers::writing::put_answer;
 use jlr_asks::reading::take_ask;
 use jlr_asks::writing::put_ask;
-use jlr_fields::cursor::take_u8;
-use jlr_fields::fault::ReadError;
-use jlr_fields::number::put_u8;
-use jlr_fields::version::Version;
+use jlr_trace_fields::cursor::take_u8;
+use jlr_trace_fields::fault::ReadError;
+use jlr_trace_fields::number::put_u8;
+use jlr_trace_fields::version::Version;
 use jlr_machine::entry::Entry;
 use std::alloc::{AllocError, Global};
 

@@ -1,8 +1,8 @@
 //! The image at the head of a trace file.
 ghost use Rattle.std.specs.Prelude.{◌≡◌, ◌≤◌, ◌++◌, length, map, option_map, Some, IfOk};
 ghost use Rattle.std.specs.Int.{w32};
-ghost use Rattle.jlr_fields.specs.Reading.{Reads, number_within_at, three_fields};
-ghost use Rattle.jlr_fields.specs.Items.{items_at, rising_at};
+ghost use Rattle.jlr_trace_fields.specs.Reading.{Reads, number_within_at, three_fields};
+ghost use Rattle.jlr_trace_fields.specs.Items.{items_at, rising_at};
 ghost use Rattle.jlr_parts.specs.Records.{held_after};
 ghost use Rattle.jlr_sections.specs.Images.{listed_from, placed, held, head_read, session_text, joined_read};
 ghost use Rattle.jlr_sections.specs.Images.{session_read, waiting_read, records_read, counts_read, image_text};
@@ -10,11 +10,11 @@ ghost use Rattle.jlr_sections.specs.Images.{made_image, image_behind, image_read
 ghost use Rattle.std.specs.List.{AllByRecursion};
 
 use crate::places::{Objects, held_places, objects_at};
-use jlr_fields::cursor::{
+use jlr_trace_fields::cursor::{
     take_flag, take_option, take_u16_within, take_u32, take_u64, take_within,
 };
-use jlr_fields::fault::{Fault, ReadError};
-use jlr_fields::version::Version;
+use jlr_trace_fields::fault::{Fault, ReadError};
+use jlr_trace_fields::version::Version;
 use jlr_machine::items::Items;
 use jlr_machine::machine::{Binding, Failure, Job, Machine, Resource, Session};
 use jlr_machine::table::Table;
@@ -70,7 +70,7 @@ pub struct Image {
     pub strays: Items<Placed>,
 }
 
-#[tactic(auto, unfolding(jlr_fields::specs::Reading::number_within_at))]
+#[tactic(auto, unfolding(jlr_trace_fields::specs::Reading::number_within_at))]
 fn cells_at(bytes: &mut &[u8]) -> Result<u32, ReadError>
     ensures { Reads (λ x. x) result bytes.new.now (number_within_at w32 16 65536 bytes.old.now) }
 {

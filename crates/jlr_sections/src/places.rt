@@ -1,14 +1,14 @@
 //! Tables that are made of lists: each thing at the place that its number names.
 ghost use Rattle.std.specs.Prelude.{◌≡◌, ◌+◌, ◌-◌, ◌<◌, ◌≤◌, [], ◌∷◌, ◌++◌, None, IfOk, OnOk, length, replicate};
-ghost use Rattle.jlr_fields.specs.Reading.{Reads};
-ghost use Rattle.jlr_fields.specs.Items.{Rises, rising_items_at, rising_at};
+ghost use Rattle.jlr_trace_fields.specs.Reading.{Reads};
+ghost use Rattle.jlr_trace_fields.specs.Items.{Rises, rising_items_at, rising_at};
 ghost use Rattle.jlr_parts.specs.Records.{placed_after};
 ghost use Rattle.std.specs.List.{AllByRecursion};
 ghost use Rattle.jlr_sections.specs.Images.{listed_from, placed, held, places_of};
 
-use jlr_fields::cursor::take_u32;
-use jlr_fields::fault::{Fault, ReadError};
-use jlr_fields::version::Version;
+use jlr_trace_fields::cursor::take_u32;
+use jlr_trace_fields::fault::{Fault, ReadError};
+use jlr_trace_fields::version::Version;
 use jlr_machine::items::Items;
 use jlr_machine::object::Object;
 use jlr_machine::table::Table;
@@ -121,7 +121,7 @@ fn placed_at(
 
 /// The objects of an image with so many cells. A list that cannot fit in the bytes that are left is short, and takes no
 /// memory.
-#[tactic(auto, unfolding(jlr_fields::specs::Items::rising_at))]
+#[tactic(auto, unfolding(jlr_trace_fields::specs::Items::rising_at))]
 pub(crate) fn objects_at(
     alloc: Global,
     version: Version,

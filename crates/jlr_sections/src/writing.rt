@@ -2,7 +2,7 @@
 ghost use Rattle.std.specs.Prelude.{◌≡◌, ◌+◌, ◌<◌, ◌≤◌, ◌^◌, ◌∷◌, ◌++◌, OnOk, length};
 ghost use Rattle.std.specs.List.{flat_map, AllByRecursion};
 ghost use Rattle.jlr_machine.specs.Objects.{at, occupied};
-ghost use Rattle.jlr_fields.specs.Spelling.{spelled_option};
+ghost use Rattle.jlr_trace_fields.specs.Spelling.{spelled_option};
 ghost use Rattle.jlr_parts.specs.Records.{spelled_held, spelled_placed, PlacedCounts, spelled_call};
 ghost use Rattle.jlr_sections.specs.Images.{listed_from, placed, held, spelled_head, head_of, spelled_waiting};
 ghost use Rattle.jlr_sections.specs.Images.{waiting_of, spelled_records, records_of, spelled_counts, counts_of};
@@ -10,7 +10,7 @@ ghost use Rattle.jlr_sections.specs.Images.{image_text, spelled_image, whole_ima
 ghost use Rattle.jlr_sections.specs.Writing.{spelled_place, PlaceCounts, SessionCounts, spelled_handles};
 ghost use Rattle.jlr_sections.specs.Writing.{spelled_objects, spelled_session_of, MachineCounts, ImageCounts};
 
-use jlr_fields::number::{put_option, put_slot, put_u8, put_u16, put_u32, put_u64};
+use jlr_trace_fields::number::{put_option, put_slot, put_u8, put_u16, put_u32, put_u64};
 use jlr_machine::machine::{Machine, Session};
 use jlr_machine::object::Object;
 use jlr_machine::table::Table;

@@ -9,11 +9,11 @@ use Rattle.jlr_machine.specs.declared.ask.Ask.TheVariants.{Join, Leave, New, Put
 use Rattle.jlr_machine.specs.declared.ask.Ask.TheVariants.{Clear, Enqueue, Enqueued, MakeQueue, Poll, Remove, MakeCleaner, Register, Clean}
 use Rattle.jlr_machine.specs.declared.ask.Ask.TheVariants.{Prepare, Opened, CheckOut, CheckIn, Close, Finish, Bind, Find, Unbind, Names}
 use Rattle.jlr_machine.specs.declared.ask.Ask.TheVariants.{Full, Stat, Notes, Faults, HandOver, TakeUp, Begin, Collect, Abandon, Array}
-use Rattle.jlr_fields.specs.declared.fault.Fault.TheVariants.{Range}
-use Rattle.jlr_fields.specs.declared.version.Version.{Version}
-use Rattle.jlr_fields.specs.declared.version.Version.TheVariants.{One, Two}
-use Rattle.jlr_fields.specs.Reading.{is_name_byte}
-use Rattle.jlr_fields.specs.Items.{items_at}
+use Rattle.jlr_trace_fields.specs.declared.fault.Fault.TheVariants.{Range}
+use Rattle.jlr_trace_fields.specs.declared.version.Version.{Version}
+use Rattle.jlr_trace_fields.specs.declared.version.Version.TheVariants.{One, Two}
+use Rattle.jlr_trace_fields.specs.Reading.{is_name_byte}
+use Rattle.jlr_trace_fields.specs.Items.{items_at}
 use Rattle.jlr_parts.specs.Tables.{ref_kinds, faults}
 use Rattle.jlr_asks.specs.Asks.{outcomes, modes, kind_read, layout_read, call_outcome_behind, call_outcome_read, field_read, tags}
 use Rattle.jlr_asks.specs.Asks.{array_read, body_of, ask_read}

@@ -4,9 +4,9 @@ use Rattle.std.proofs.Common.{Ok, Err, refl, arith}
 use Rattle.std.specs.Int.{w32}
 use Rattle.std.proofs.lemmas.Bool.{ltb-false, le-ltb}
 use Rattle.std.proofs.lemmas.List.{length-append}
-use Rattle.jlr_fields.specs.declared.fault.Fault.TheVariants.{Short}
-use Rattle.jlr_fields.specs.Reading.{Reader, ◌>>=◌}
-use Rattle.jlr_fields.specs.Items.{items_at, list_at, rising_items_at, rising_at}
+use Rattle.jlr_trace_fields.specs.declared.fault.Fault.TheVariants.{Short}
+use Rattle.jlr_trace_fields.specs.Reading.{Reader, ◌>>=◌}
+use Rattle.jlr_trace_fields.specs.Items.{items_at, list_at, rising_items_at, rising_at}
 use Rattle.jlr_steady.specs.Steady.{StillReads, IsSteady}
 use Rattle.jlr_steady.proofs.Steps.{made, then_read, one}
 use Rattle.jlr_steady.proofs.Fields.{number}

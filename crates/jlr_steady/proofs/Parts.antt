@@ -5,11 +5,11 @@ use Rattle.jlr_types.specs.declared.FieldValue.TheVariants.{Int, Ref}
 use Rattle.jlr_types.specs.declared.Work.TheVariants.{Note, Resource as WorkOn}
 use Rattle.jlr_machine.specs.declared.object.Object.TheVariants.{Reference, Queue, Cleaner, Cleanable, Guard}
 use Rattle.jlr_machine.specs.declared.machine.Call.TheVariants.{Free, Opening as CallOpening, Out as CallOut, Job as CallJob}
-use Rattle.jlr_fields.specs.declared.fault.Fault.TheVariants.{Range}
-use Rattle.jlr_fields.specs.declared.version.Version.{Version}
-use Rattle.jlr_fields.specs.declared.version.Version.TheVariants.{One, Two}
-use Rattle.jlr_fields.specs.Reading.{one_field, option_at, is_name_byte}
-use Rattle.jlr_fields.specs.Items.{items_at, may_follow}
+use Rattle.jlr_trace_fields.specs.declared.fault.Fault.TheVariants.{Range}
+use Rattle.jlr_trace_fields.specs.declared.version.Version.{Version}
+use Rattle.jlr_trace_fields.specs.declared.version.Version.TheVariants.{One, Two}
+use Rattle.jlr_trace_fields.specs.Reading.{one_field, option_at, is_name_byte}
+use Rattle.jlr_trace_fields.specs.Items.{items_at, may_follow}
 use Rattle.jlr_parts.specs.Tables.{ref_kinds, ref_states, clean_states, faults, resource_states}
 use Rattle.jlr_parts.specs.Objects.{value_behind, value_read, work_behind, work_read, typed, array, plain_read, array_read, array_in}
 use Rattle.jlr_parts.specs.Objects.{reference_read, queue_read, cleanable_read, guard_read, object_behind, object_read}

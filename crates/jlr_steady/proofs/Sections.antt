@@ -2,9 +2,9 @@
 use Rattle.std.proofs.Common.{◌%◌, Bool, true, false, cond, [], Some, None, Ok}
 use Rattle.std.specs.Prelude.{nat_eq, nat_le}
 use Rattle.std.specs.Int.{w16, w32, w64}
-use Rattle.jlr_fields.specs.declared.version.Version.{Version}
-use Rattle.jlr_fields.specs.Reading.{two_fields, number_at}
-use Rattle.jlr_fields.specs.Items.{items_at}
+use Rattle.jlr_trace_fields.specs.declared.version.Version.{Version}
+use Rattle.jlr_trace_fields.specs.Reading.{two_fields, number_at}
+use Rattle.jlr_trace_fields.specs.Items.{items_at}
 use Rattle.jlr_sections.specs.Choices.{itself, collected_read, collection_read, fresh_read, made_choice, choice_read}
 use Rattle.jlr_sections.specs.Entries.{made_entry, entry_read}
 use Rattle.jlr_sections.specs.Images.{made_head, head_read, made_session, joined_read, session_read, waiting_read, records_read}

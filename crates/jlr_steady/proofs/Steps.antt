@@ -1,8 +1,8 @@
 -- Readers made of steady ones are steady.
 use Rattle.std.proofs.Common.{ℕ, Bool, true, false, cond, List, ◌++◌, Result, Ok, Err, refl, sym, ap, subst}
-use Rattle.jlr_fields.specs.declared.fault.Fault.{Fault}
-use Rattle.jlr_fields.specs.declared.fault.Fault.TheVariants.{Short, Range}
-use Rattle.jlr_fields.specs.Reading.{Reader, ◌>>=◌, one_field, two_fields, three_fields, four_fields, five_fields}
+use Rattle.jlr_trace_fields.specs.declared.fault.Fault.{Fault}
+use Rattle.jlr_trace_fields.specs.declared.fault.Fault.TheVariants.{Short, Range}
+use Rattle.jlr_trace_fields.specs.Reading.{Reader, ◌>>=◌, one_field, two_fields, three_fields, four_fields, five_fields}
 use Rattle.jlr_steady.specs.Steady.{StillReads, IsSteady}
 
 -- nothing is read, or nothing is in range

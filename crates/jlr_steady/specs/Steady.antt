@@ -1,8 +1,8 @@
 -- What is read from a beginning of the bytes is read from all of them.
 use Rattle.std.specs.Prelude.{◌≡◌, ℕ, List, ◌++◌, Result, Ok, Err}
-use Rattle.jlr_fields.specs.declared.fault.Fault.{Fault}
-use Rattle.jlr_fields.specs.declared.fault.Fault.TheVariants.{Short, Range}
-use Rattle.jlr_fields.specs.Reading.{Reader}
+use Rattle.jlr_trace_fields.specs.declared.fault.Fault.{Fault}
+use Rattle.jlr_trace_fields.specs.declared.fault.Fault.TheVariants.{Short, Range}
+use Rattle.jlr_trace_fields.specs.Reading.{Reader}
 
 -- what reading gives, with more bytes behind: the same value, and they stand behind what is left; or a value out of
 -- range. Only that bytes are missing may turn out otherwise

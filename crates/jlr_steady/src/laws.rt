@@ -1,7 +1,7 @@
 //! Which readers do so. Each function's contract is the law, and its body is empty.
 ghost use Rattle.std.specs.Int.{w64};
-ghost use Rattle.jlr_fields.specs.Reading.{number_at};
-ghost use Rattle.jlr_fields.specs.declared.version.Version.{Version as VersionOf};
+ghost use Rattle.jlr_trace_fields.specs.Reading.{number_at};
+ghost use Rattle.jlr_trace_fields.specs.declared.version.Version.{Version as VersionOf};
 ghost use Rattle.jlr_sections.specs.Entries.{entry_read};
 ghost use Rattle.jlr_sections.specs.Images.{image_read};
 ghost use Rattle.jlr_steady.specs.Steady.{IsSteady};

@@ -3,11 +3,11 @@ use Rattle.std.proofs.Common.{◌≡◌, ℕ, suc, ◌-◌, ◌+◌, ◌≤◌, 
 use Rattle.std.proofs.Common.{arith}
 use Rattle.std.proofs.lemmas.List.{append-nil}
 use Rattle.jlr_machine.specs.declared.entry.Entry.{Entry}
-use Rattle.jlr_fields.specs.declared.fault.Fault.TheVariants.{Short, Range}
-use Rattle.jlr_fields.specs.declared.fault.ReadError.{ReadError}
-use Rattle.jlr_fields.specs.declared.fault.ReadError.TheVariants as errors
-use Rattle.jlr_fields.specs.declared.version.Version.{Version}
-use Rattle.jlr_fields.specs.Reading.{Fails}
+use Rattle.jlr_trace_fields.specs.declared.fault.Fault.TheVariants.{Short, Range}
+use Rattle.jlr_trace_fields.specs.declared.fault.ReadError.{ReadError}
+use Rattle.jlr_trace_fields.specs.declared.fault.ReadError.TheVariants as errors
+use Rattle.jlr_trace_fields.specs.declared.version.Version.{Version}
+use Rattle.jlr_trace_fields.specs.Reading.{Fails}
 use Rattle.jlr_trace.specs.declared.file.TraceFault.{TraceFault}
 use Rattle.jlr_sections.specs.Entries.{entry_read}
 use Rattle.jlr_trace.specs.Files.{◌>>>◌, entries_read, told, FileFails}

@@ -8,13 +8,13 @@ use Rattle.std.proofs.lemmas.Bool.{eq-eqb}
 use Rattle.std.proofs.lemmas.List.{append-nil}
 use Rattle.std.proofs.lemmas.List.Concat.{flat_map-cons}
 use Rattle.jlr_machine.specs.declared.entry.Entry.{Entry}
-use Rattle.jlr_fields.specs.declared.fault.Fault.{Fault}
-use Rattle.jlr_fields.specs.declared.fault.Fault.TheVariants.{Short, Range}
-use Rattle.jlr_fields.specs.declared.version.Version.{Version}
-use Rattle.jlr_fields.specs.declared.version.Version.TheVariants.{One, Two}
-use Rattle.jlr_fields.specs.Reading.{number_at}
-use Rattle.jlr_fields.specs.Spelling.{spelled_64, IsBytes}
-use Rattle.jlr_fields.proofs.Numbers.{eight_bytes}
+use Rattle.jlr_trace_fields.specs.declared.fault.Fault.{Fault}
+use Rattle.jlr_trace_fields.specs.declared.fault.Fault.TheVariants.{Short, Range}
+use Rattle.jlr_trace_fields.specs.declared.version.Version.{Version}
+use Rattle.jlr_trace_fields.specs.declared.version.Version.TheVariants.{One, Two}
+use Rattle.jlr_trace_fields.specs.Reading.{number_at}
+use Rattle.jlr_trace_fields.specs.Spelling.{spelled_64, IsBytes}
+use Rattle.jlr_trace_fields.proofs.Numbers.{eight_bytes}
 use Rattle.jlr_trace.specs.declared.file.TraceFault.{TraceFault}
 use Rattle.jlr_trace.specs.declared.file.TraceFault.TheVariants.{Truncated, BadMark, BadVersion, BadEntry, NoMemory}
 use Rattle.jlr_sections.specs.Entries.{spelled_entry, EntryFits, entry_read}

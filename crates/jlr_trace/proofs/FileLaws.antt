@@ -8,14 +8,14 @@ use Rattle.std.proofs.lemmas.Bool.{eqb-true}
 use Rattle.std.proofs.lemmas.List.{append-nil, nil_from_length}
 use Rattle.std.proofs.lemmas.List.Concat.{flat_map-cons}
 use Rattle.jlr_machine.specs.declared.entry.Entry.{Entry}
-use Rattle.jlr_fields.specs.declared.fault.Fault.{Fault}
-use Rattle.jlr_fields.specs.declared.version.Version.{Version}
-use Rattle.jlr_fields.specs.declared.version.Version.TheVariants.{One, Two}
-use Rattle.jlr_fields.specs.Reading.{number_at}
-use Rattle.jlr_fields.specs.Spelling.{spelled_64, IsBytes}
-use Rattle.jlr_fields.specs.Laws.{Takes}
-use Rattle.jlr_fields.proofs.Steps.{Takes-then}
-use Rattle.jlr_fields.proofs.Numbers.{eight_bytes}
+use Rattle.jlr_trace_fields.specs.declared.fault.Fault.{Fault}
+use Rattle.jlr_trace_fields.specs.declared.version.Version.{Version}
+use Rattle.jlr_trace_fields.specs.declared.version.Version.TheVariants.{One, Two}
+use Rattle.jlr_trace_fields.specs.Reading.{number_at}
+use Rattle.jlr_trace_fields.specs.Spelling.{spelled_64, IsBytes}
+use Rattle.jlr_trace_fields.specs.Laws.{Takes}
+use Rattle.jlr_trace_fields.proofs.Steps.{Takes-then}
+use Rattle.jlr_trace_fields.proofs.Numbers.{eight_bytes}
 use Rattle.jlr_trace.specs.declared.file.TraceFile.{TraceFile}
 use Rattle.jlr_trace.specs.declared.file.TraceFault.{TraceFault}
 use Rattle.jlr_trace.specs.declared.file.TraceFault.TheVariants.{BadMark, BadVersion, BadEntry}

@@ -7,12 +7,12 @@ use Rattle.std.specs.Io.KnownBytes.{IsAtEnd, prepend_known}
 use Rattle.jlr_machine.specs.declared.entry.Entry.{Entry}
 use Rattle.jlr_machine.specs.declared.machine.Machine.{Machine}
 use Rattle.jlr_parts.specs.declared.record.Placed.{Placed}
-use Rattle.jlr_fields.specs.declared.version.Version.{Version}
-use Rattle.jlr_fields.specs.Reading.{number_at}
-use Rattle.jlr_fields.specs.Spelling.{spelled_64, IsBytes}
-use Rattle.jlr_fields.specs.Laws.{Takes}
-use Rattle.jlr_fields.proofs.Steps.{Takes-then}
-use Rattle.jlr_fields.proofs.Numbers.{eight_bytes}
+use Rattle.jlr_trace_fields.specs.declared.version.Version.{Version}
+use Rattle.jlr_trace_fields.specs.Reading.{number_at}
+use Rattle.jlr_trace_fields.specs.Spelling.{spelled_64, IsBytes}
+use Rattle.jlr_trace_fields.specs.Laws.{Takes}
+use Rattle.jlr_trace_fields.proofs.Steps.{Takes-then}
+use Rattle.jlr_trace_fields.proofs.Numbers.{eight_bytes}
 use Rattle.jlr_sections.specs.Entries.{spelled_entry, entry_read}
 use Rattle.jlr_sections.specs.Images.{ImageText, image_text, whole_image, HasShape, spelled_image, image_read}
 use Rattle.jlr_sections.proofs.EntryLaws.{entry}

@@ -9,7 +9,7 @@ use Rattle.jlr_machine.specs.declared.object.Contents.TheVariants.{Typed, Elemen
 use Rattle.jlr_machine.specs.declared.ask.Ask.{Ask}
 use Rattle.jlr_machine.specs.declared.ask.Ask.TheVariants.{Put, Get, SetInt, Int, Array}
 use Rattle.jlr_machine.specs.declared.entry.Entry.{Entry}
-use Rattle.jlr_fields.specs.declared.version.Version.TheVariants.{One, Two}
+use Rattle.jlr_trace_fields.specs.declared.version.Version.TheVariants.{One, Two}
 use Rattle.jlr_parts.specs.declared.record.Placed.{Placed}
 use Rattle.jlr_parts.specs.Objects.{ObjectFits}
 use Rattle.jlr_parts.specs.Records.{PlacedFits}

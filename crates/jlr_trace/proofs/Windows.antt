@@ -8,7 +8,7 @@ use Rattle.jlr_trace.specs.declared.file.TraceFault.{TraceFault}
 use Rattle.jlr_trace.specs.declared.file.TraceFault.TheVariants.{Truncated, BadMark, BadVersion, BadEntry, NoMemory}
 use Rattle.jlr_trace.specs.declared.window.StreamFault.{StreamFault}
 use Rattle.jlr_trace.specs.declared.window.StreamFault.TheVariants.{Unread, Damaged}
-use Rattle.jlr_fields.specs.Spelling.{IsBytes}
+use Rattle.jlr_trace_fields.specs.Spelling.{IsBytes}
 use Rattle.jlr_trace.specs.Files.{FileFails}
 use Rattle.jlr_trace.specs.Streams.{Held, known, AreBytes, ReadsOn, FailsOn, IsLast}
 use Rattle.jlr_trace.proofs.Stillness.{Still, IsStill}

@@ -4,11 +4,11 @@ use Rattle.std.specs.Prelude.{◌≡◌, ◌≢◌, ◌⊎◌, ℕ, suc, ◌<◌
 use Rattle.std.specs.List.{flat_map, AllByRecursion}
 use Rattle.std.specs.Int.{w64}
 use Rattle.jlr_machine.specs.declared.entry.Entry.{Entry}
-use Rattle.jlr_fields.specs.declared.fault.Fault.{Fault}
-use Rattle.jlr_fields.specs.declared.fault.Fault.TheVariants.{Short, Range}
-use Rattle.jlr_fields.specs.declared.version.Version.{Version}
-use Rattle.jlr_fields.specs.Spelling.{spelled_64}
-use Rattle.jlr_fields.specs.Reading.{number_at}
+use Rattle.jlr_trace_fields.specs.declared.fault.Fault.{Fault}
+use Rattle.jlr_trace_fields.specs.declared.fault.Fault.TheVariants.{Short, Range}
+use Rattle.jlr_trace_fields.specs.declared.version.Version.{Version}
+use Rattle.jlr_trace_fields.specs.Spelling.{spelled_64}
+use Rattle.jlr_trace_fields.specs.Reading.{number_at}
 use Rattle.jlr_trace.specs.declared.file.TraceFault.{TraceFault}
 use Rattle.jlr_trace.specs.declared.file.TraceFault.TheVariants.{Truncated, BadMark, BadVersion, BadEntry, NoMemory}
 use Rattle.jlr_sections.specs.Entries.{spelled_entry, EntryFits, entry_read}

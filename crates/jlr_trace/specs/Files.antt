@@ -5,14 +5,14 @@ use Rattle.std.specs.List.{flat_map, AllByRecursion}
 use Rattle.std.specs.Int.{w64}
 use Rattle.jlr_machine.specs.declared.machine.Machine.{Machine}
 use Rattle.jlr_machine.specs.declared.entry.Entry.{Entry}
-use Rattle.jlr_fields.specs.declared.fault.Fault.{Fault}
-use Rattle.jlr_fields.specs.declared.fault.Fault.TheVariants.{Short, Range}
-use Rattle.jlr_fields.specs.declared.fault.ReadError.{ReadError}
-use Rattle.jlr_fields.specs.declared.fault.ReadError.TheVariants as errors
-use Rattle.jlr_fields.specs.declared.version.Version.{Version}
-use Rattle.jlr_fields.specs.declared.version.Version.TheVariants.{One, Two}
-use Rattle.jlr_fields.specs.Spelling.{spelled_64}
-use Rattle.jlr_fields.specs.Reading.{number_at}
+use Rattle.jlr_trace_fields.specs.declared.fault.Fault.{Fault}
+use Rattle.jlr_trace_fields.specs.declared.fault.Fault.TheVariants.{Short, Range}
+use Rattle.jlr_trace_fields.specs.declared.fault.ReadError.{ReadError}
+use Rattle.jlr_trace_fields.specs.declared.fault.ReadError.TheVariants as errors
+use Rattle.jlr_trace_fields.specs.declared.version.Version.{Version}
+use Rattle.jlr_trace_fields.specs.declared.version.Version.TheVariants.{One, Two}
+use Rattle.jlr_trace_fields.specs.Spelling.{spelled_64}
+use Rattle.jlr_trace_fields.specs.Reading.{number_at}
 use Rattle.jlr_parts.specs.declared.record.Placed.{Placed}
 use Rattle.jlr_trace.specs.declared.file.TraceFile.{TraceFile}
 use Rattle.jlr_trace.specs.declared.file.TraceFault.{TraceFault}

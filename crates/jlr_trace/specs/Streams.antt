@@ -5,9 +5,9 @@ use Rattle.std.specs.Int.{w64}
 use Rattle.std.specs.Io.KnownBytes.{prepend_known, Consumes, IsAtEnd}
 use Rattle.jlr_machine.specs.declared.entry.Entry.{Entry}
 use Rattle.jlr_machine.specs.declared.machine.Machine.{Machine}
-use Rattle.jlr_fields.specs.declared.version.Version.{Version}
-use Rattle.jlr_fields.specs.Reading.{number_at}
-use Rattle.jlr_fields.specs.Spelling.{IsBytes}
+use Rattle.jlr_trace_fields.specs.declared.version.Version.{Version}
+use Rattle.jlr_trace_fields.specs.Reading.{number_at}
+use Rattle.jlr_trace_fields.specs.Spelling.{IsBytes}
 use Rattle.jlr_parts.specs.declared.record.Placed.{Placed}
 use Rattle.jlr_sections.specs.Images.{ImageText, image_read}
 use Rattle.jlr_trace.specs.declared.file.TraceFile.{TraceFile}

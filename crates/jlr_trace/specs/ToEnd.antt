@@ -2,8 +2,8 @@
 use Rattle.std.specs.Prelude.{◌==◌, ◌+◌, ℕ, List, length, Result, Ok, Err, if◌then◌else◌}
 use Rattle.std.specs.Int.{w64}
 use Rattle.jlr_machine.specs.declared.entry.Entry.{Entry}
-use Rattle.jlr_fields.specs.declared.version.Version.{Version}
-use Rattle.jlr_fields.specs.Reading.{number_at}
+use Rattle.jlr_trace_fields.specs.declared.version.Version.{Version}
+use Rattle.jlr_trace_fields.specs.Reading.{number_at}
 use Rattle.jlr_trace.specs.declared.file.TraceFault.{TraceFault}
 use Rattle.jlr_trace.specs.declared.file.TraceFault.TheVariants.{BadEntry}
 use Rattle.jlr_trace.specs.Files.{entries_read, in_entry, ◌>>>◌}

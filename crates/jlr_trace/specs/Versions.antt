@@ -6,7 +6,7 @@ use Rattle.jlr_machine.specs.declared.object.Object.TheVariants.{Plain}
 use Rattle.jlr_machine.specs.declared.ask.Ask.{Ask}
 use Rattle.jlr_machine.specs.declared.ask.Ask.TheVariants.{Put, Get, SetInt, Int, Array}
 use Rattle.jlr_machine.specs.Objects.{is_typed}
-use Rattle.jlr_fields.specs.declared.version.Version.{Version}
+use Rattle.jlr_trace_fields.specs.declared.version.Version.{Version}
 use Rattle.jlr_trace.specs.Files.{FileText}
 
 -- no array

@@ -1,8 +1,8 @@
 //! Reading a trace file.
 ghost use Rattle.std.specs.Prelude.{◌≡◌, ◌↔◌, ℕ, [], ◌++◌, List, Ok, IfErr, IfOk, IsTrue};
 ghost use Rattle.std.specs.Int.{w64};
-ghost use Rattle.jlr_fields.specs.Reading.{number_at};
-ghost use Rattle.jlr_fields.specs.declared.version.Version.TheVariants.{One, Two};
+ghost use Rattle.jlr_trace_fields.specs.Reading.{number_at};
+ghost use Rattle.jlr_trace_fields.specs.declared.version.Version.TheVariants.{One, Two};
 ghost use Rattle.jlr_trace.specs.declared.file.TraceFault.TheVariants.{NoMemory};
 ghost use Rattle.jlr_trace.specs.declared.file.TraceFile.{TraceFile as TraceFileOf};
 ghost use Rattle.jlr_sections.specs.Images.{image_text, image_read, HasShape};
@@ -13,9 +13,9 @@ ghost use Rattle.jlr_trace.specs.Faults.{IsFault};
 ghost use Rattle.jlr_trace.specs.ToEnd.{entries_to_end};
 ghost use Rattle.jlr_trace.specs.Versions.{fits_version_1, in_version};
 
-use jlr_fields::cursor::take_u64;
-use jlr_fields::fault::{Fault, ReadError};
-use jlr_fields::version::Version;
+use jlr_trace_fields::cursor::take_u64;
+use jlr_trace_fields::fault::{Fault, ReadError};
+use jlr_trace_fields::version::Version;
 use jlr_machine::entry::Entry;
 use jlr_machine::items::Items;
 use jlr_machine::machine::Machine;

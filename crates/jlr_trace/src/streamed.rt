@@ -12,7 +12,7 @@ ghost use Rattle.jlr_trace.specs.Streams.{AreSoMany};
 
 use crate::file::{TraceFault, count_in, fault_of, image_in, mark_at};
 use crate::window::{StreamFault, Window};
-use jlr_fields::version::Version;
+use jlr_trace_fields::version::Version;
 use jlr_machine::entry::Entry;
 use jlr_machine::items::Items;
 use jlr_machine::machine::Machine;

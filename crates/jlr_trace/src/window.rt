@@ -1,7 +1,7 @@
 //! A stream of bytes: those that were read and not yet used lie in a row.
 ghost use Rattle.std.specs.Prelude.{◌≡◌, ◌≢◌, ◌≤◌, ◌<◌, ◌++◌, [], false, length, drop, take, IfOk, IfErr, OnOk};
 ghost use Rattle.std.specs.Io.KnownBytes.{Consumes, IsAtEnd};
-ghost use Rattle.jlr_fields.specs.Spelling.{IsBytes};
+ghost use Rattle.jlr_trace_fields.specs.Spelling.{IsBytes};
 ghost use Rattle.jlr_trace.specs.Streams.{Held, Fills, MoreIsRead, IsOutside};
 ghost use Rattle.jlr_trace.specs.declared.window.StreamFault.TheVariants.{Damaged};
 ghost use Rattle.jlr_trace.specs.declared.file.TraceFault.TheVariants.{NoMemory};

@@ -7,8 +7,8 @@ ghost use Rattle.jlr_trace.specs.Files.{file_text, file_with, history_of, versio
 ghost use Rattle.jlr_trace.specs.Files.{HasSpelling};
 
 use crate::file::TraceFile;
-use jlr_fields::number::put_u64;
-use jlr_fields::version::Version;
+use jlr_trace_fields::number::put_u64;
+use jlr_trace_fields::version::Version;
 use jlr_machine::entry::Entry;
 use jlr_machine::machine::Machine;
 use jlr_parts::record::Placed;

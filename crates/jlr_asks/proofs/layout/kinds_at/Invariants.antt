@@ -1,6 +1,6 @@
 use Rattle.std.proofs.Common.{◌≡◌, ◌-◌, length}
-use Rattle.jlr_fields.specs.Items.{items_at}
-use Rattle.jlr_fields.proofs.Loop.{with_front}
+use Rattle.jlr_trace_fields.specs.Items.{items_at}
+use Rattle.jlr_trace_fields.proofs.Loop.{with_front}
 use Rattle.jlr_asks.specs.Asks.{kind_read}
 use Rattle.jlr_asks.proofs.layout.kinds_at.Given as goal
 

@@ -1,5 +1,5 @@
 use Rattle.std.proofs.Common.{arith}
-use Rattle.jlr_fields.proofs.Lists.{items_counted}
+use Rattle.jlr_trace_fields.proofs.Lists.{items_counted}
 use Rattle.jlr_parts.specs.Objects.{value_read}
 use Rattle.jlr_parts.proofs.object.plain_at.Goals as goal
 

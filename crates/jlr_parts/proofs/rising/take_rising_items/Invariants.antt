@@ -1,6 +1,6 @@
 use Rattle.std.proofs.Common.{◌≡◌, ◌-◌, None}
-use Rattle.jlr_fields.proofs.Loop.{with_front}
-use Rattle.jlr_fields.specs.Items.{rising_items_at}
+use Rattle.jlr_trace_fields.proofs.Loop.{with_front}
+use Rattle.jlr_trace_fields.specs.Items.{rising_items_at}
 use Rattle.jlr_parts.proofs.rising.take_rising_items.Given as goal
 
 abbrev pub invariant-loop : goal.invariant-loop

@@ -1,6 +1,6 @@
 use Rattle.std.proofs.Common.{ap, arith, length}
 use Rattle.std.specs.Int.{w32}
-use Rattle.jlr_fields.specs.Reading.{number_at}
+use Rattle.jlr_trace_fields.specs.Reading.{number_at}
 use Rattle.jlr_sections.proofs.Few.{items_counted}
 use Rattle.jlr_sections.proofs.choice.fresh_at.Goals as goal
 

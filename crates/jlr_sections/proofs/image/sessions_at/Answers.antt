@@ -3,8 +3,8 @@ use Rattle.std.specs.Prelude.{map, option_map}
 use Rattle.std.proofs.lemmas.List.{map-append, length-append}
 use Rattle.std.proofs.lemmas.Result.{err_from_is_err_and}
 use Rattle.jlr_machine.specs.declared.machine.Session.{Session}
-use Rattle.jlr_fields.specs.Items.{items_at}
-use Rattle.jlr_fields.proofs.Loop.{with_front, goes_on, ends, is_done}
+use Rattle.jlr_trace_fields.specs.Items.{items_at}
+use Rattle.jlr_trace_fields.proofs.Loop.{with_front, goes_on, ends, is_done}
 use Rattle.std.specs.List.{AllByRecursion}
 use Rattle.jlr_sections.specs.Images.{SessionText, session_text, session_read, HasPlaces}
 use Rattle.jlr_sections.proofs.image.sessions_at.Goals as goal

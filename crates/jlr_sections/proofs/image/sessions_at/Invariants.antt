@@ -1,7 +1,7 @@
 use Rattle.std.proofs.Common.{◌≡◌, ◌-◌, length}
 use Rattle.std.specs.Prelude.{map, option_map}
-use Rattle.jlr_fields.specs.Items.{items_at}
-use Rattle.jlr_fields.proofs.Loop.{with_front}
+use Rattle.jlr_trace_fields.specs.Items.{items_at}
+use Rattle.jlr_trace_fields.proofs.Loop.{with_front}
 use Rattle.std.specs.List.{AllByRecursion}
 use Rattle.jlr_sections.specs.Images.{session_text, session_read, HasPlaces}
 use Rattle.jlr_sections.proofs.image.sessions_at.Given as goal

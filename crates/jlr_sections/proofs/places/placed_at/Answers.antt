@@ -2,9 +2,9 @@ use Rattle.std.proofs.Common.{◌≡◌, ℕ, length, ◌+◌, ◌-◌, List, �
 use Rattle.std.proofs.lemmas.Result.{err_from_is_err_and}
 use Rattle.std.specs.Prelude.{replicate}
 use Rattle.jlr_machine.specs.declared.object.Object.{Object}
-use Rattle.jlr_fields.specs.Items.{rising_items_at}
-use Rattle.jlr_fields.proofs.Loop.{with_front}
-use Rattle.jlr_fields.proofs.RisingLoop.{goes_on, ends, is_done}
+use Rattle.jlr_trace_fields.specs.Items.{rising_items_at}
+use Rattle.jlr_trace_fields.proofs.Loop.{with_front}
+use Rattle.jlr_trace_fields.proofs.RisingLoop.{goes_on, ends, is_done}
 use Rattle.jlr_parts.specs.declared.record.Placed.{Placed}
 use Rattle.jlr_parts.specs.Records.{placed_after}
 use Rattle.jlr_sections.specs.Images.{listed_from, placed}

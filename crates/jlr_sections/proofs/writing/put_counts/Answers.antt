@@ -1,6 +1,6 @@
 use Rattle.std.proofs.Common.{◌≡◌, ℕ, List, ◌++◌}
-use Rattle.jlr_fields.specs.Spelling.{spelled_64}
-use Rattle.jlr_fields.proofs.Writing.{joined, then_written}
+use Rattle.jlr_trace_fields.specs.Spelling.{spelled_64}
+use Rattle.jlr_trace_fields.proofs.Writing.{joined, then_written}
 use Rattle.jlr_sections.proofs.writing.put_counts.Goals as goal
 
 pub returns : goal.returns

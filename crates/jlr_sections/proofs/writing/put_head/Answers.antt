@@ -1,7 +1,7 @@
 use Rattle.std.proofs.Common.{◌≡◌, ℕ, List, ◌++◌, length}
 use Rattle.jlr_machine.specs.declared.machine.Machine.{Machine}
-use Rattle.jlr_fields.specs.Spelling.{spelled_8, spelled_16, spelled_32, spelled_64}
-use Rattle.jlr_fields.proofs.Writing.{joined, then_written}
+use Rattle.jlr_trace_fields.specs.Spelling.{spelled_8, spelled_16, spelled_32, spelled_64}
+use Rattle.jlr_trace_fields.proofs.Writing.{joined, then_written}
 use Rattle.jlr_sections.proofs.writing.put_head.Goals as goal
 
 pub returns : goal.returns

@@ -2,7 +2,7 @@ use Rattle.std.proofs.Common.{◌≡◌, ℕ, List, ◌++◌, ap, ◌∙◌}
 use Rattle.std.specs.Prelude.{map, option_map}
 use Rattle.std.specs.List.{flat_map}
 use Rattle.jlr_machine.specs.declared.machine.Machine.{Machine}
-use Rattle.jlr_fields.proofs.Writing.{joined, then_written}
+use Rattle.jlr_trace_fields.proofs.Writing.{joined, then_written}
 use Rattle.jlr_sections.specs.Images.{spelled_head, head_of, spelled_waiting, waiting_of, spelled_records, records_of, spelled_counts}
 use Rattle.jlr_sections.specs.Images.{counts_of, session_text, spelled_session}
 use Rattle.jlr_sections.specs.Writing.{spelled_objects}

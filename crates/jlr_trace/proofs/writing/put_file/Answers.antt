@@ -1,8 +1,8 @@
 use Rattle.std.proofs.Common.{◌≡◌, ℕ, List, ◌++◌, length, subst}
 use Rattle.std.specs.List.{flat_map}
 use Rattle.jlr_machine.specs.declared.entry.Entry.{Entry}
-use Rattle.jlr_fields.specs.Spelling.{spelled_64}
-use Rattle.jlr_fields.proofs.Writing.{joined, then_written}
+use Rattle.jlr_trace_fields.specs.Spelling.{spelled_64}
+use Rattle.jlr_trace_fields.proofs.Writing.{joined, then_written}
 use Rattle.jlr_sections.specs.Entries.{spelled_entry}
 use Rattle.jlr_sections.specs.Images.{image_text, spelled_image}
 use Rattle.jlr_trace.specs.Files.{file_with, image_of, mark}

@@ -1,8 +1,8 @@
 //! Texts: a byte of length, and that many bytes.
 ghost use Rattle.std.specs.Prelude.{◌≡◌, ◌≤◌, ◌<◌, ◌++◌, take, length, IsTrue, OnOk};
 ghost use Rattle.std.specs.List.{list_all};
-ghost use Rattle.jlr_fields.specs.Spelling.{spelled_text, IsWithin};
-ghost use Rattle.jlr_fields.specs.Reading.{Gives, is_name_byte, taken_at, bytes_at, text_at};
+ghost use Rattle.jlr_trace_fields.specs.Spelling.{spelled_text, IsWithin};
+ghost use Rattle.jlr_trace_fields.specs.Reading.{Gives, is_name_byte, taken_at, bytes_at, text_at};
 
 use crate::fault::{Fault, ReadError};
 use crate::number::byte_within;

@@ -6,14 +6,14 @@ use Rattle.std.specs.Int.{w32}
 use Rattle.std.proofs.lemmas.Bool.{le-ltb}
 use Rattle.std.proofs.lemmas.List.{length-append}
 use Rattle.std.proofs.lemmas.List.Concat.{flat_map-cons}
-use Rattle.jlr_fields.specs.declared.fault.Fault.TheVariants.{Short}
-use Rattle.jlr_fields.specs.Reading.{Reader, ◌>>=◌, number_at}
-use Rattle.jlr_fields.specs.Spelling.{spelled_32, IsBytes}
-use Rattle.jlr_fields.specs.Items.{rising_items_at, rising_at, spelled_list, Rises, IsRising}
-use Rattle.jlr_fields.specs.Laws.{Takes, TakesSpelled, ReadsAgain, IsField, IsRisingField, IsLeast}
-use Rattle.jlr_fields.proofs.Steps.{bind_ok, ok_is, Takes-then}
-use Rattle.jlr_fields.proofs.Numbers.{four_bytes}
-use Rattle.jlr_fields.proofs.Lists.{guard_not, items_long}
+use Rattle.jlr_trace_fields.specs.declared.fault.Fault.TheVariants.{Short}
+use Rattle.jlr_trace_fields.specs.Reading.{Reader, ◌>>=◌, number_at}
+use Rattle.jlr_trace_fields.specs.Spelling.{spelled_32, IsBytes}
+use Rattle.jlr_trace_fields.specs.Items.{rising_items_at, rising_at, spelled_list, Rises, IsRising}
+use Rattle.jlr_trace_fields.specs.Laws.{Takes, TakesSpelled, ReadsAgain, IsField, IsRisingField, IsLeast}
+use Rattle.jlr_trace_fields.proofs.Steps.{bind_ok, ok_is, Takes-then}
+use Rattle.jlr_trace_fields.proofs.Numbers.{four_bytes}
+use Rattle.jlr_trace_fields.proofs.Lists.{guard_not, items_long}
 
 pub rising_items_take : {A : Type 0} (read : Option ℕ → Reader A) (spelled : A → List ℕ) (Fits : A → Type 0) (key : A → ℕ)
     → IsRisingField read spelled Fits key

@@ -2,11 +2,11 @@
 use Rattle.std.proofs.Common.{◌≡◌, ℕ, suc, ◌-◌, ◌+◌, ◌≤◌, ◌<◌, List, [], ◌∷◌, ◌++◌, Result, Ok, Err, refl, sym, ap, ◌∙◌, append_assoc}
 use Rattle.std.proofs.Common.{arith}
 use Rattle.std.proofs.lemmas.List.{append-nil}
-use Rattle.jlr_fields.specs.declared.fault.Fault.{Fault}
-use Rattle.jlr_fields.specs.declared.fault.ReadError.{ReadError}
-use Rattle.jlr_fields.specs.declared.fault.ReadError.TheVariants as errors
-use Rattle.jlr_fields.specs.Reading.{Reader, ◌>>=◌, Fails}
-use Rattle.jlr_fields.specs.Items.{items_at}
+use Rattle.jlr_trace_fields.specs.declared.fault.Fault.{Fault}
+use Rattle.jlr_trace_fields.specs.declared.fault.ReadError.{ReadError}
+use Rattle.jlr_trace_fields.specs.declared.fault.ReadError.TheVariants as errors
+use Rattle.jlr_trace_fields.specs.Reading.{Reader, ◌>>=◌, Fails}
+use Rattle.jlr_trace_fields.specs.Items.{items_at}
 
 -- what was read before, and what is still read
 abbrev pub with_front : {A : Type 0} → List A → Result (List A × List ℕ) Fault → Result (List A × List ℕ) Fault

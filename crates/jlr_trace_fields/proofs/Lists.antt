@@ -6,14 +6,14 @@ use Rattle.std.specs.Int.{w32}
 use Rattle.std.proofs.lemmas.Bool.{le-ltb}
 use Rattle.std.proofs.lemmas.List.{length-append}
 use Rattle.std.proofs.lemmas.List.Concat.{flat_map-cons}
-use Rattle.jlr_fields.specs.declared.fault.Fault.{Fault}
-use Rattle.jlr_fields.specs.declared.fault.Fault.TheVariants.{Short}
-use Rattle.jlr_fields.specs.Reading.{Reader, ◌>>=◌, number_at}
-use Rattle.jlr_fields.specs.Spelling.{spelled_32, IsBytes}
-use Rattle.jlr_fields.specs.Items.{items_at, list_at, spelled_list, IsListed}
-use Rattle.jlr_fields.specs.Laws.{Takes, TakesSpelled, ReadsAgain, IsField, IsLeast}
-use Rattle.jlr_fields.proofs.Steps.{bind_ok, ok_is, Takes-then}
-use Rattle.jlr_fields.proofs.Numbers.{four_bytes}
+use Rattle.jlr_trace_fields.specs.declared.fault.Fault.{Fault}
+use Rattle.jlr_trace_fields.specs.declared.fault.Fault.TheVariants.{Short}
+use Rattle.jlr_trace_fields.specs.Reading.{Reader, ◌>>=◌, number_at}
+use Rattle.jlr_trace_fields.specs.Spelling.{spelled_32, IsBytes}
+use Rattle.jlr_trace_fields.specs.Items.{items_at, list_at, spelled_list, IsListed}
+use Rattle.jlr_trace_fields.specs.Laws.{Takes, TakesSpelled, ReadsAgain, IsField, IsLeast}
+use Rattle.jlr_trace_fields.proofs.Steps.{bind_ok, ok_is, Takes-then}
+use Rattle.jlr_trace_fields.proofs.Numbers.{four_bytes}
 
 pub items_take : {A : Type 0} (read : Reader A) (spelled : A → List ℕ) (Fits : A → Type 0) → TakesSpelled read spelled Fits
     → (n : ℕ) (bytes : List ℕ) (xs : List A) (rest : List ℕ) → IsBytes bytes → items_at read n bytes ≡ Ok (xs, rest)

@@ -1,9 +1,9 @@
 -- Fields one after the other: what is read is what was written, and what was written is read again.
 use Rattle.std.proofs.Common.{◌≡◌, ℕ, List, ◌++◌, Result, Ok, refl, sym, ap, subst, ◌∙◌, append_assoc}
-use Rattle.jlr_fields.specs.declared.fault.Fault.{Fault}
-use Rattle.jlr_fields.specs.Reading.{Reader, ◌>>=◌, one_field, two_fields, three_fields, four_fields, five_fields}
-use Rattle.jlr_fields.specs.Laws.{Takes, TakesBehind, IsField}
-use Rattle.jlr_fields.proofs.Steps.{bind_ok, ok_is}
+use Rattle.jlr_trace_fields.specs.declared.fault.Fault.{Fault}
+use Rattle.jlr_trace_fields.specs.Reading.{Reader, ◌>>=◌, one_field, two_fields, three_fields, four_fields, five_fields}
+use Rattle.jlr_trace_fields.specs.Laws.{Takes, TakesBehind, IsField}
+use Rattle.jlr_trace_fields.proofs.Steps.{bind_ok, ok_is}
 
 moved : (front text bytes middle whole rest : List ℕ) → bytes ≡ text ++ middle → Takes ((front ++ text) ++ middle) whole rest
     → Takes (front ++ bytes) whole rest

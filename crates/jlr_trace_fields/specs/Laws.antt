@@ -1,8 +1,8 @@
 -- What the laws of a field say: what is read is what was written, and what was written is read again.
 use Rattle.std.specs.Prelude.{◌≡◌, ℕ, ◌≤◌, IsTrue, List, ◌++◌, length, Option, Ok}
-use Rattle.jlr_fields.specs.Reading.{Reader}
-use Rattle.jlr_fields.specs.Items.{may_follow}
-use Rattle.jlr_fields.specs.Spelling.{IsBytes}
+use Rattle.jlr_trace_fields.specs.Reading.{Reader}
+use Rattle.jlr_trace_fields.specs.Items.{may_follow}
+use Rattle.jlr_trace_fields.specs.Spelling.{IsBytes}
 
 -- what a reader took from the front
 pub record Takes (bytes text rest : List ℕ) : Type 0 where

@@ -4,11 +4,11 @@ use Rattle.std.specs.Prelude.{Result, Ok, Err, nat_lt, if◌then◌else◌, slic
 use Rattle.std.specs.List.{list_all}
 use Rattle.std.specs.Int.{Width, w32, w64, byte_len, from_be_bytes, cast_signed}
 use Rattle.jlr_machine.specs.Names as names
-use Rattle.jlr_fields.specs.declared.fault.Fault.{Fault}
-use Rattle.jlr_fields.specs.declared.fault.Fault.TheVariants.{Short, Range}
-use Rattle.jlr_fields.specs.declared.fault.ReadError.{ReadError}
-use Rattle.jlr_fields.specs.declared.fault.ReadError.TheVariants as errors
-use Rattle.jlr_fields.specs.Spelling.{no_slot}
+use Rattle.jlr_trace_fields.specs.declared.fault.Fault.{Fault}
+use Rattle.jlr_trace_fields.specs.declared.fault.Fault.TheVariants.{Short, Range}
+use Rattle.jlr_trace_fields.specs.declared.fault.ReadError.{ReadError}
+use Rattle.jlr_trace_fields.specs.declared.fault.ReadError.TheVariants as errors
+use Rattle.jlr_trace_fields.specs.Spelling.{no_slot}
 
 -- a reader gives what stands at the front, and the bytes behind it
 abbrev pub Reader : Type 0 → Type 0

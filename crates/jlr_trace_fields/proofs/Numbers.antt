@@ -5,11 +5,11 @@ use Rattle.std.proofs.lemmas.Bool.{ltb-false, le-ltb}
 use Rattle.std.proofs.lemmas.List.{take_at, drop_at, take-append-drop, length-append, length-take}
 use Rattle.std.proofs.lemmas.Nat.{be_bytes_2, be_bytes_4, be_bytes_8, from_be_bytes-to_be_bytes_2, from_be_bytes-to_be_bytes_4}
 use Rattle.std.proofs.lemmas.Nat.{from_be_bytes-to_be_bytes_8}
-use Rattle.jlr_fields.specs.declared.fault.Fault.TheVariants.{Short}
-use Rattle.jlr_fields.specs.Reading.{number_at}
-use Rattle.jlr_fields.specs.Spelling.{spelled_16, spelled_32, spelled_64, IsBytes}
-use Rattle.jlr_fields.specs.Laws.{TakesSpelled, ReadsAgain, IsField, IsLeast}
-use Rattle.jlr_fields.proofs.Steps.{IsBytes-drop, IsBytes-take, guard_ok}
+use Rattle.jlr_trace_fields.specs.declared.fault.Fault.TheVariants.{Short}
+use Rattle.jlr_trace_fields.specs.Reading.{number_at}
+use Rattle.jlr_trace_fields.specs.Spelling.{spelled_16, spelled_32, spelled_64, IsBytes}
+use Rattle.jlr_trace_fields.specs.Laws.{TakesSpelled, ReadsAgain, IsField, IsLeast}
+use Rattle.jlr_trace_fields.proofs.Steps.{IsBytes-drop, IsBytes-take, guard_ok}
 
 pub record IsWide (w : Width) (limit : ℕ) : Type 0 where
   pub len : (n : ℕ) → length (to_be_bytes w n) ≡ byte_len w

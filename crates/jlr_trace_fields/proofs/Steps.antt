@@ -3,10 +3,10 @@ use Rattle.std.proofs.Common.{◌≡◌, ℕ, ◌+◌, Bool, true, false, cond, 
 use Rattle.std.proofs.Common.{append_assoc, arith, inl, inr}
 use Rattle.std.proofs.lemmas.Bool.{cases_lt}
 use Rattle.std.proofs.lemmas.List.{length-take, get_or-drop, get_or-take, get_or_past}
-use Rattle.jlr_fields.specs.declared.fault.Fault.{Fault}
-use Rattle.jlr_fields.specs.Reading.{◌>>=◌}
-use Rattle.jlr_fields.specs.Spelling.{IsBytes}
-use Rattle.jlr_fields.specs.Laws.{Takes}
+use Rattle.jlr_trace_fields.specs.declared.fault.Fault.{Fault}
+use Rattle.jlr_trace_fields.specs.Reading.{◌>>=◌}
+use Rattle.jlr_trace_fields.specs.Spelling.{IsBytes}
+use Rattle.jlr_trace_fields.specs.Laws.{Takes}
 
 pub IsBytes-drop : (n : ℕ) (bytes : List ℕ) → IsBytes bytes → IsBytes (drop n bytes)
 IsBytes-drop n bytes h i = rw get_or-drop (h (n + i))

@@ -2,12 +2,12 @@
 use Rattle.std.proofs.Common.{◌≡◌, ℕ, suc, ◌-◌, ◌+◌, ◌≤◌, ◌<◌, List, [], ◌∷◌, ◌++◌, Option, Some, Result, Ok, Err, refl, sym, ap, ◌∙◌}
 use Rattle.std.proofs.Common.{append_assoc, arith}
 use Rattle.std.proofs.lemmas.List.{append-nil}
-use Rattle.jlr_fields.specs.declared.fault.Fault.{Fault}
-use Rattle.jlr_fields.specs.declared.fault.ReadError.{ReadError}
-use Rattle.jlr_fields.specs.declared.fault.ReadError.TheVariants as errors
-use Rattle.jlr_fields.specs.Reading.{Reader, ◌>>=◌, Fails}
-use Rattle.jlr_fields.specs.Items.{rising_items_at}
-use Rattle.jlr_fields.proofs.Loop.{with_front}
+use Rattle.jlr_trace_fields.specs.declared.fault.Fault.{Fault}
+use Rattle.jlr_trace_fields.specs.declared.fault.ReadError.{ReadError}
+use Rattle.jlr_trace_fields.specs.declared.fault.ReadError.TheVariants as errors
+use Rattle.jlr_trace_fields.specs.Reading.{Reader, ◌>>=◌, Fails}
+use Rattle.jlr_trace_fields.specs.Items.{rising_items_at}
+use Rattle.jlr_trace_fields.proofs.Loop.{with_front}
 
 regroup : {A : Type 0} (front : List A) (x : A) (read : Result (List A × List ℕ) Fault)
     → with_front front (read >>= λ y. Ok (x ∷ y.0, y.1)) ≡ with_front (front ++ x ∷ []) read
