@@ -23,7 +23,7 @@ REFERENCE = {
     "jlr_device": 42,
     "jlr_laws": 18,
     "jlr_marks": 17,
-    "jlr_parts": 83,
+    "jlr_trace_fields": 83,
     "jlr_plain_asks": 47,
     "jlr_plain_images": 102,
     "jlr_plain_images": 105,

@@ -18,9 +18,9 @@ use Rattle.jlr_trace_fields.proofs.Numbers.{four_bytes, eight_bytes, four_least}
 use Rattle.jlr_trace_fields.proofs.Basics.{byte, within, flag, signed, bytes, picked, picked_takes}
 use Rattle.jlr_trace_fields.proofs.Lists.{list_field}
 use Rattle.jlr_trace_fields.proofs.Products.{made_takes, one_takes, two_takes, five_takes, one_again, two_again, five_again}
-use Rattle.jlr_parts.proofs.TableLaws.{fault}
-use Rattle.jlr_parts.proofs.Objects.{work}
-use Rattle.jlr_parts.proofs.Records.{name, name_least, failure, failure_least}
+use Rattle.jlr_trace_fields.proofs.TableLaws.{fault}
+use Rattle.jlr_trace_fields.proofs.Objects.{work}
+use Rattle.jlr_trace_fields.proofs.Records.{name, name_least, failure, failure_least}
 use Rattle.jlr_answers.specs.declared.tag.Tag.{Tag}
 use Rattle.jlr_answers.specs.declared.tag.Tag.TheVariants.{Done as TagDone, Handle as TagHandle, Truth as TagTruth, Int as TagInt}
 use Rattle.jlr_answers.specs.declared.tag.Tag.TheVariants.{Data as TagData, Wrote as TagWrote, Faulted as TagFaulted, Names as TagNames}

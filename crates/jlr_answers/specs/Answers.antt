@@ -19,9 +19,9 @@ use Rattle.jlr_trace_fields.specs.Spelling.{IsText, IsWithin}
 use Rattle.jlr_trace_fields.specs.Reading.{Reader, ◌>>=◌, one_field, two_fields, five_fields, byte_at, byte_within_at}
 use Rattle.jlr_trace_fields.specs.Reading.{number_at, signed_at, flag_at, picked_at, bytes_at, text_at, is_name_byte}
 use Rattle.jlr_trace_fields.specs.Items.{list_at, spelled_list, IsListed}
-use Rattle.jlr_parts.specs.Tables.{faults, fault_number}
-use Rattle.jlr_parts.specs.Objects.{spelled_work, WorkFits, work_read}
-use Rattle.jlr_parts.specs.Records.{NameFits, spelled_failure, FailureFits, failure_read}
+use Rattle.jlr_trace_fields.specs.Tables.{faults, fault_number}
+use Rattle.jlr_trace_fields.specs.Objects.{spelled_work, WorkFits, work_read}
+use Rattle.jlr_trace_fields.specs.Records.{NameFits, spelled_failure, FailureFits, failure_read}
 use Rattle.jlr_answers.specs.declared.tag.Tag.{Tag}
 use Rattle.jlr_answers.specs.declared.tag.Tag.TheVariants.{Done as TagDone, Handle as TagHandle, Truth as TagTruth}
 use Rattle.jlr_answers.specs.declared.tag.Tag.TheVariants.{Int as TagInt, Data as TagData, Wrote as TagWrote}

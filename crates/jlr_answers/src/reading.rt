@@ -18,9 +18,9 @@ use jlr_trace_fields::cursor::{
 use jlr_trace_fields::fault::ReadError;
 use jlr_machine::ask::Answer;
 use jlr_machine::text::WriteCount;
-use jlr_parts::items::take_list;
-use jlr_parts::object::take_work;
-use jlr_parts::tables::take_fault;
+use jlr_trace_fields::parts::items::take_list;
+use jlr_trace_fields::parts::object::take_work;
+use jlr_trace_fields::parts::tables::take_fault;
 use std::alloc::Global;
 
 fn handle_answer(bytes: &mut &[u8]) -> Result<Answer, ReadError>

@@ -31,8 +31,8 @@ use Rattle.jlr_trace_fields.proofs.Basics.{byte, within, number_within, signed, 
 use Rattle.jlr_trace_fields.proofs.Lists.{items_take, items_again}
 use Rattle.jlr_trace_fields.proofs.Products.{then_takes, made_takes, one_takes, two_takes, three_takes, four_takes, then_again, one_again}
 use Rattle.jlr_trace_fields.proofs.Products.{two_again, three_again, four_again}
-use Rattle.jlr_parts.proofs.TableLaws.{ref_kind, fault}
-use Rattle.jlr_parts.proofs.Records.{name}
+use Rattle.jlr_trace_fields.proofs.TableLaws.{ref_kind, fault}
+use Rattle.jlr_trace_fields.proofs.Records.{name}
 use Rattle.jlr_asks.specs.declared.tag.Tag.{Tag}
 use Rattle.jlr_asks.specs.declared.tag.Tag.TheVariants.{Join as TagJoin, Leave as TagLeave, New as TagNew, Put as TagPut, Get as TagGet}
 use Rattle.jlr_asks.specs.declared.tag.Tag.TheVariants.{SetInt as TagSetInt, Int as TagInt, Dup as TagDup, Drop as TagDrop, Same as TagSame}

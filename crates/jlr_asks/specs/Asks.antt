@@ -29,8 +29,8 @@ use Rattle.jlr_trace_fields.specs.Reading.{Reader, ◌>>=◌, one_field, two_fie
 use Rattle.jlr_trace_fields.specs.Reading.{byte_within_at, number_at, number_within_at, signed_at, picked_at, bytes_at}
 use Rattle.jlr_trace_fields.specs.Reading.{text_at, is_name_byte}
 use Rattle.jlr_trace_fields.specs.Items.{items_at}
-use Rattle.jlr_parts.specs.Tables.{ref_kinds, ref_kind_number, faults, fault_number}
-use Rattle.jlr_parts.specs.Records.{NameFits}
+use Rattle.jlr_trace_fields.specs.Tables.{ref_kinds, ref_kind_number, faults, fault_number}
+use Rattle.jlr_trace_fields.specs.Records.{NameFits}
 use Rattle.jlr_asks.specs.declared.tag.Tag.{Tag}
 use Rattle.jlr_asks.specs.declared.tag.Tag.TheVariants.{Join as TagJoin, Leave as TagLeave, New as TagNew}
 use Rattle.jlr_asks.specs.declared.tag.Tag.TheVariants.{Put as TagPut, Get as TagGet, SetInt as TagSetInt}

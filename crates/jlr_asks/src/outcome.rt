@@ -11,7 +11,7 @@ use jlr_trace_fields::number::put_u8;
 use jlr_trace_fields::text::put_text;
 use jlr_machine::ask::{CallOutcome, FullMode, Outcome};
 use jlr_machine::text::WriteCount;
-use jlr_parts::tables::{put_fault, take_fault};
+use jlr_trace_fields::parts::tables::{put_fault, take_fault};
 use jlr_types::Fault;
 use std::alloc::{AllocError, Global};
 

@@ -9,7 +9,7 @@ ghost use Rattle.jlr_machine.specs.declared.ask.Ask.TheVariants.{Close, Finish, 
 ghost use Rattle.jlr_machine.specs.declared.ask.Ask.TheVariants.{Notes, Faults};
 ghost use Rattle.jlr_trace_fields.specs.Reading.{Reads, one_field, two_fields, three_fields, four_fields, byte_at, number_at};
 ghost use Rattle.jlr_trace_fields.specs.Reading.{signed_at, picked_at, text_at, is_name_byte};
-ghost use Rattle.jlr_parts.specs.Tables.{ref_kinds};
+ghost use Rattle.jlr_trace_fields.specs.Tables.{ref_kinds};
 ghost use Rattle.jlr_asks.specs.Asks.{outcomes, modes, layout_read, call_outcome_read, field_read, array_read};
 ghost use Rattle.jlr_asks.specs.Asks.{ask_read};
 
@@ -23,7 +23,7 @@ use jlr_trace_fields::cursor::{
 use jlr_trace_fields::fault::{Fault, ReadError};
 use jlr_trace_fields::version::Version;
 use jlr_machine::ask::Ask;
-use jlr_parts::tables::take_ref_kind;
+use jlr_trace_fields::parts::tables::take_ref_kind;
 use std::alloc::Global;
 
 fn join_at(bytes: &mut &[u8]) -> Result<Ask, ReadError>

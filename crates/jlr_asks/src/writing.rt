@@ -10,7 +10,7 @@ use jlr_trace_fields::number::{put_i64, put_u8, put_u32, put_u64};
 use jlr_trace_fields::text::put_text;
 use jlr_trace_fields::version::Version;
 use jlr_machine::ask::{Ask, Outcome};
-use jlr_parts::tables::put_ref_kind;
+use jlr_trace_fields::parts::tables::put_ref_kind;
 use jlr_types::{ActionNo, FieldNo, Handle, Mutator};
 use std::alloc::AllocError;
 

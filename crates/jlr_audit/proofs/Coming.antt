@@ -9,7 +9,7 @@ use Rattle.jlr_machine.specs.declared.entry.Entry.{Entry}
 use Rattle.jlr_machine.specs.Run.{IsLegal, Run}
 use Rattle.jlr_machine.specs.WellFormed.{IsImage}
 use Rattle.jlr_plain.specs.Following.{IsFit, IsNext}
-use Rattle.jlr_parts.specs.declared.record.Placed.{Placed}
+use Rattle.jlr_trace_fields.specs.declared.parts.record.Placed.{Placed}
 use Rattle.jlr_trace.specs.declared.file.TraceFault.{TraceFault}
 use Rattle.jlr_trace.specs.declared.window.StreamFault.{StreamFault}
 use Rattle.jlr_trace.specs.Files.{◌>>>◌}

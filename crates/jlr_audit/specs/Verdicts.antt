@@ -4,7 +4,7 @@ use Rattle.jlr_machine.specs.declared.machine.Machine.{Machine}
 use Rattle.jlr_machine.specs.declared.entry.Entry.{Entry}
 use Rattle.jlr_machine.specs.Run.{IsLegal, Run}
 use Rattle.jlr_machine.specs.WellFormed.{IsImage}
-use Rattle.jlr_parts.specs.declared.record.Placed.{Placed}
+use Rattle.jlr_trace_fields.specs.declared.parts.record.Placed.{Placed}
 use Rattle.jlr_trace.specs.declared.file.TraceFile.{TraceFile}
 use Rattle.jlr_audit.specs.declared.verdict.Verdict.{Verdict}
 use Rattle.jlr_audit.specs.declared.verdict.Verdict.TheVariants.{Legal, Illegal}

@@ -13,7 +13,7 @@ use crate::verdict::Verdict;
 use crate::watch::Watch;
 use jlr_machine::entry::Entry;
 use jlr_machine::machine::Machine;
-use jlr_parts::record::Placed;
+use jlr_trace_fields::parts::record::Placed;
 use jlr_plain::advance::advance_plain;
 use jlr_plain_images::image::image_plain;
 use jlr_trace::file::TraceFault;

@@ -3,7 +3,7 @@ ghost use Rattle.jlr_machine.specs.WellFormed.{IsWellFormed};
 
 use jlr_machine::entry::Entry;
 use jlr_machine::machine::Machine;
-use jlr_parts::record::Placed;
+use jlr_trace_fields::parts::record::Placed;
 
 /// Is told how far an audit is. What it does with that changes nothing in the verdict.
 pub trait Watch {

@@ -6,7 +6,7 @@ use crate::history::{image_said, said_of};
 use jlr_audit::watch::Watch;
 use jlr_machine::entry::Entry;
 use jlr_machine::machine::Machine;
-use jlr_parts::record::Placed;
+use jlr_trace_fields::parts::record::Placed;
 use jlr_plain::entry::legal_plain;
 use std::alloc::{AllocError, Global};
 

@@ -6,7 +6,7 @@ use crate::asks::{answer_said, ask_said};
 use crate::rules::rule_broken;
 use jlr_machine::entry::Entry;
 use jlr_machine::machine::Machine;
-use jlr_parts::record::Placed;
+use jlr_trace_fields::parts::record::Placed;
 use jlr_plain_images::image::image_plain;
 use std::alloc::{AllocError, Global};
 

@@ -18,9 +18,9 @@ use Rattle.jlr_laws.proofs.Clearing.{in_left, in_right}
 use Rattle.jlr_laws.proofs.Frames.{place_within}
 use Rattle.jlr_trace_fields.specs.declared.version.Version.TheVariants.{Two}
 use Rattle.jlr_trace_fields.specs.Items.{IsRising}
-use Rattle.jlr_parts.specs.declared.record.Held.{Held}
-use Rattle.jlr_parts.specs.declared.record.Placed.{Placed}
-use Rattle.jlr_parts.specs.Records.{PlacedFits}
+use Rattle.jlr_trace_fields.specs.declared.parts.record.Held.{Held}
+use Rattle.jlr_trace_fields.specs.declared.parts.record.Placed.{Placed}
+use Rattle.jlr_trace_fields.specs.Records.{PlacedFits}
 use Rattle.jlr_trace.specs.declared.file.TraceFile.{TraceFile}
 use Rattle.jlr_trace.specs.Files.{image_of}
 use Rattle.jlr_machine.specs.declared.entry.Entry.{Entry}

@@ -6,8 +6,8 @@ use Rattle.std.proofs.lemmas.Bool.{lt-ltb}
 use Rattle.jlr_machine.specs.declared.object.Object.{Object}
 use Rattle.jlr_trace_fields.specs.Items.{may_follow, Rises, IsRising}
 use Rattle.jlr_trace_fields.specs.declared.version.Version.TheVariants.{Two}
-use Rattle.jlr_parts.specs.Objects.{ObjectFits}
-use Rattle.jlr_parts.specs.Records.{PlacedFits, HeldFits}
+use Rattle.jlr_trace_fields.specs.Objects.{ObjectFits}
+use Rattle.jlr_trace_fields.specs.Records.{PlacedFits, HeldFits}
 use Rattle.jlr_sections.specs.Images.{listed_from, placed, held}
 use Rattle.jlr_sections.proofs.WritingLaws.{counted, occupied_within}
 use Rattle.jlr_ranges.specs.Ranges.{HandleRange}

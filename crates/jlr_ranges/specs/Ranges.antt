@@ -16,8 +16,8 @@ use Rattle.jlr_machine.specs.Chosen.{Chosen}
 use Rattle.jlr_machine.specs.declared.entry.Entry.{Entry}
 use Rattle.jlr_trace_fields.specs.declared.version.Version.TheVariants.{Two}
 use Rattle.jlr_trace_fields.specs.Spelling.{IsSigned, IsWithin}
-use Rattle.jlr_parts.specs.Objects.{WorkFits, GuardFits}
-use Rattle.jlr_parts.specs.Records.{NameFits, BindingFits, FailureFits, CallFits, JobFits, ResourceFits}
+use Rattle.jlr_trace_fields.specs.Objects.{WorkFits, GuardFits}
+use Rattle.jlr_trace_fields.specs.Records.{NameFits, BindingFits, FailureFits, CallFits, JobFits, ResourceFits}
 use Rattle.jlr_asks.specs.Asks.{AskFits}
 use Rattle.jlr_answers.specs.Answers.{AnswerFits}
 use Rattle.jlr_sections.specs.Choices.{SlotIs}

@@ -1,5 +1,5 @@
 //! Machines.
-ghost use Rattle.jlr_parts.specs.Records.{CallFits, NameFits};
+ghost use Rattle.jlr_trace_fields.specs.Records.{CallFits, NameFits};
 ghost use Rattle.jlr_sections.specs.Images.{counts_of, CountsFit};
 ghost use Rattle.jlr_ranges.specs.Ranges.{MachineRange, SessionRange};
 
@@ -9,7 +9,7 @@ use jlr_machine::machine::{Binding, Call, Failure, Job, Machine, Resource, Sessi
 use jlr_machine::text::Name;
 
 impl Ranged for Name {
-    ghost use Rattle.jlr_parts.specs.Records.{NameFits};
+    ghost use Rattle.jlr_trace_fields.specs.Records.{NameFits};
 
     ghost Range = { NameFits };
 
@@ -19,7 +19,7 @@ impl Ranged for Name {
 }
 
 impl Ranged for Binding {
-    ghost use Rattle.jlr_parts.specs.Records.{BindingFits};
+    ghost use Rattle.jlr_trace_fields.specs.Records.{BindingFits};
 
     ghost Range = { BindingFits };
 
@@ -30,7 +30,7 @@ impl Ranged for Binding {
 }
 
 impl Ranged for Failure {
-    ghost use Rattle.jlr_parts.specs.Records.{FailureFits};
+    ghost use Rattle.jlr_trace_fields.specs.Records.{FailureFits};
 
     ghost Range = { FailureFits };
 
@@ -40,7 +40,7 @@ impl Ranged for Failure {
 }
 
 impl Ranged for Job {
-    ghost use Rattle.jlr_parts.specs.Records.{JobFits};
+    ghost use Rattle.jlr_trace_fields.specs.Records.{JobFits};
 
     ghost Range = { JobFits };
 
@@ -52,7 +52,7 @@ impl Ranged for Job {
 }
 
 impl Ranged for Resource {
-    ghost use Rattle.jlr_parts.specs.Records.{ResourceFits};
+    ghost use Rattle.jlr_trace_fields.specs.Records.{ResourceFits};
 
     ghost Range = { ResourceFits };
 

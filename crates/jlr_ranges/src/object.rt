@@ -1,6 +1,6 @@
 //! Objects.
 ghost use Rattle.std.specs.Prelude.{◌<◌, ◌^◌};
-ghost use Rattle.jlr_parts.specs.Objects.{WorkFits, GuardFits};
+ghost use Rattle.jlr_trace_fields.specs.Objects.{WorkFits, GuardFits};
 ghost use Rattle.jlr_ranges.specs.Ranges.{ContentsRange, ObjectRange};
 
 use crate::list::{Ranged, all_in_range};

@@ -15,7 +15,7 @@ use Rattle.jlr_trace_fields.proofs.Basics.{within}
 use Rattle.jlr_trace_fields.proofs.Lists.{list_field, items_take, items_again}
 use Rattle.jlr_trace_fields.proofs.Rising.{rising_field}
 use Rattle.jlr_trace_fields.proofs.Products.{then_takes, made_takes, one_takes, two_takes, then_again, one_again, two_again}
-use Rattle.jlr_parts.proofs.Records.{rising_slot}
+use Rattle.jlr_trace_fields.proofs.Records.{rising_slot}
 use Rattle.jlr_sections.specs.Choices.{SlotIs, spelled_collected, CollectedFits, collected_read, spelled_collection, CollectionFits}
 use Rattle.jlr_sections.specs.Choices.{collection_read, spelled_fresh, FreshFits, fresh_read, flags_of, spelled_choice, ChoiceFits}
 use Rattle.jlr_sections.specs.Choices.{made_choice, choice_read}

@@ -10,10 +10,10 @@ use Rattle.jlr_machine.specs.declared.ask.Answer.TheVariants.{Job, AlreadyDone, 
 use Rattle.jlr_machine.specs.declared.entry.Entry.{Entry}
 use Rattle.jlr_machine.specs.declared.entry.Collected.{Collected}
 use Rattle.jlr_trace_fields.specs.declared.version.Version.{Version}
-use Rattle.jlr_parts.specs.declared.record.Placed.{Placed}
-use Rattle.jlr_parts.specs.declared.record.Held.{Held}
-use Rattle.jlr_parts.specs.Objects.{ObjectFits, ObjectCounts}
-use Rattle.jlr_parts.specs.Records.{PlacedFits, PlacedCounts}
+use Rattle.jlr_trace_fields.specs.declared.parts.record.Placed.{Placed}
+use Rattle.jlr_trace_fields.specs.declared.parts.record.Held.{Held}
+use Rattle.jlr_trace_fields.specs.Objects.{ObjectFits, ObjectCounts}
+use Rattle.jlr_trace_fields.specs.Records.{PlacedFits, PlacedCounts}
 use Rattle.jlr_answers.specs.Answers.{AnswerFits, AnswerCounts}
 use Rattle.jlr_sections.specs.declared.image.Image.{Image}
 use Rattle.jlr_sections.specs.Choices.{CollectionFits, CollectionCounts}

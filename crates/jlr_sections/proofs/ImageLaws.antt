@@ -18,9 +18,9 @@ use Rattle.jlr_trace_fields.proofs.Lists.{list_field, items_take, items_again}
 use Rattle.jlr_trace_fields.proofs.Rising.{rising_field}
 use Rattle.jlr_trace_fields.proofs.Products.{then_takes, made_takes, three_takes, four_takes, five_takes, then_again, three_again, four_again}
 use Rattle.jlr_trace_fields.proofs.Products.{five_again}
-use Rattle.jlr_parts.proofs.Records.{binding, binding_least, failure, failure_least, call, rising_job, job_least, rising_resource}
-use Rattle.jlr_parts.proofs.Records.{resource_least, rising_placed, placed_least, rising_held, held_least}
-use Rattle.jlr_parts.specs.Records.{spelled_placed}
+use Rattle.jlr_trace_fields.proofs.Records.{binding, binding_least, failure, failure_least, call, rising_job, job_least, rising_resource}
+use Rattle.jlr_trace_fields.proofs.Records.{resource_least, rising_placed, placed_least, rising_held, held_least}
+use Rattle.jlr_trace_fields.specs.Records.{spelled_placed}
 use Rattle.jlr_sections.specs.declared.image.Head.{Head}
 use Rattle.jlr_sections.specs.declared.image.Waiting.{Waiting}
 use Rattle.jlr_sections.specs.declared.image.Records.{Records}

@@ -19,10 +19,10 @@ use Rattle.jlr_trace_fields.specs.Items.{may_follow, rising_items_at, rising_at,
 use Rattle.jlr_trace_fields.specs.declared.fault.Fault.{Fault}
 use Rattle.jlr_trace_fields.proofs.Steps.{bind_ok, ok_is}
 use Rattle.jlr_trace_fields.proofs.Lists.{guard_not}
-use Rattle.jlr_parts.specs.Objects.{object_read}
-use Rattle.jlr_parts.specs.Records.{held_behind, held_after, placed_behind, placed_after}
-use Rattle.jlr_parts.specs.declared.record.Placed.{Placed}
-use Rattle.jlr_parts.specs.declared.record.Held.{Held}
+use Rattle.jlr_trace_fields.specs.Objects.{object_read}
+use Rattle.jlr_trace_fields.specs.Records.{held_behind, held_after, placed_behind, placed_after}
+use Rattle.jlr_trace_fields.specs.declared.parts.record.Placed.{Placed}
+use Rattle.jlr_trace_fields.specs.declared.parts.record.Held.{Held}
 use Rattle.jlr_sections.specs.Images.{listed_from, placed, held}
 
 -- a test that did not fail

@@ -8,8 +8,8 @@ use Rattle.jlr_machine.specs.declared.object.Object.{Object}
 use Rattle.jlr_machine.specs.declared.machine.Call.{Call}
 use Rattle.jlr_machine.specs.declared.machine.Session.{Session}
 use Rattle.jlr_machine.specs.Objects.{Table}
-use Rattle.jlr_parts.specs.declared.record.Placed.{Placed}
-use Rattle.jlr_parts.specs.declared.record.Held.{Held}
+use Rattle.jlr_trace_fields.specs.declared.parts.record.Placed.{Placed}
+use Rattle.jlr_trace_fields.specs.declared.parts.record.Held.{Held}
 use Rattle.jlr_sections.specs.declared.image.Image.{Image}
 use Rattle.jlr_sections.specs.Images.{SessionText, listed_from, placed, held, session_text, ImageText, image_text, places_of, HasPlaces}
 use Rattle.jlr_sections.specs.Images.{HasShape}

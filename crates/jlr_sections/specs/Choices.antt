@@ -8,7 +8,7 @@ use Rattle.jlr_machine.specs.Chosen.{Chosen}
 use Rattle.jlr_trace_fields.specs.Spelling.{spelled_32}
 use Rattle.jlr_trace_fields.specs.Reading.{Reader, ◌>>=◌, one_field, two_fields, number_at, byte_within_at}
 use Rattle.jlr_trace_fields.specs.Items.{items_at, list_at, rising_at, spelled_list, IsListed, IsRising}
-use Rattle.jlr_parts.specs.Records.{slot_after}
+use Rattle.jlr_trace_fields.specs.Records.{slot_after}
 
 abbrev pub itself : ℕ → ℕ
 itself s = s

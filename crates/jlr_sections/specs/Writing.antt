@@ -6,9 +6,9 @@ use Rattle.jlr_machine.specs.declared.object.Object.{Object}
 use Rattle.jlr_machine.specs.declared.machine.Session.{Session}
 use Rattle.jlr_machine.specs.declared.machine.Machine.{Machine}
 use Rattle.jlr_trace_fields.specs.Items.{spelled_list}
-use Rattle.jlr_parts.specs.declared.record.Placed.{Placed}
-use Rattle.jlr_parts.specs.Objects.{ObjectCounts}
-use Rattle.jlr_parts.specs.Records.{spelled_held, spelled_placed, PlacedCounts}
+use Rattle.jlr_trace_fields.specs.declared.parts.record.Placed.{Placed}
+use Rattle.jlr_trace_fields.specs.Objects.{ObjectCounts}
+use Rattle.jlr_trace_fields.specs.Records.{spelled_held, spelled_placed, PlacedCounts}
 use Rattle.jlr_sections.specs.Images.{listed_from, placed, held, session_text, spelled_session}
 
 -- what stands at one place of a table

@@ -2,7 +2,7 @@
 ghost use Rattle.std.specs.Prelude.{◌≡◌, ◌≤◌, ◌<◌, ◌++◌, OnOk, length};
 ghost use Rattle.jlr_trace_fields.specs.Reading.{Reads};
 ghost use Rattle.jlr_trace_fields.specs.Items.{rising_at};
-ghost use Rattle.jlr_parts.specs.Records.{slot_after};
+ghost use Rattle.jlr_trace_fields.specs.Records.{slot_after};
 ghost use Rattle.jlr_sections.specs.Choices.{itself, collected_read, collection_read, fresh_read, choice_read};
 ghost use Rattle.jlr_sections.specs.Choices.{flags_of as flags_of_choice, spelled_collection, CollectionCounts};
 ghost use Rattle.jlr_sections.specs.Choices.{spelled_fresh, spelled_choice, ChoiceCounts};
@@ -14,8 +14,8 @@ use jlr_machine::entry::{Chosen, Collected};
 use jlr_machine::fresh::FreshSlots;
 use jlr_machine::items::Items;
 use jlr_machine::kept::KeptSlots;
-use jlr_parts::items::{put_each, put_list, take_items, take_list};
-use jlr_parts::rising::take_rising;
+use jlr_trace_fields::parts::items::{put_each, put_list, take_items, take_list};
+use jlr_trace_fields::parts::rising::take_rising;
 use jlr_types::Slot;
 use std::alloc::{AllocError, Global};
 

@@ -3,7 +3,7 @@ ghost use Rattle.std.specs.Prelude.{◌≡◌, ◌≤◌, ◌++◌, length, map,
 ghost use Rattle.std.specs.Int.{w32};
 ghost use Rattle.jlr_trace_fields.specs.Reading.{Reads, number_within_at, three_fields};
 ghost use Rattle.jlr_trace_fields.specs.Items.{items_at, rising_at};
-ghost use Rattle.jlr_parts.specs.Records.{held_after};
+ghost use Rattle.jlr_trace_fields.specs.Records.{held_after};
 ghost use Rattle.jlr_sections.specs.Images.{listed_from, placed, held, head_read, session_text, joined_read};
 ghost use Rattle.jlr_sections.specs.Images.{session_read, waiting_read, records_read, counts_read, image_text};
 ghost use Rattle.jlr_sections.specs.Images.{made_image, image_behind, image_read, places_of, HasPlaces, HasShape};
@@ -18,9 +18,9 @@ use jlr_trace_fields::version::Version;
 use jlr_machine::items::Items;
 use jlr_machine::machine::{Binding, Failure, Job, Machine, Resource, Session};
 use jlr_machine::table::Table;
-use jlr_parts::items::take_list;
-use jlr_parts::record::{Placed, take_call};
-use jlr_parts::rising::take_rising;
+use jlr_trace_fields::parts::items::take_list;
+use jlr_trace_fields::parts::record::{Placed, take_call};
+use jlr_trace_fields::parts::rising::take_rising;
 use jlr_types::Slot;
 use std::alloc::Global;
 

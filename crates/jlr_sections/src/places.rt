@@ -2,7 +2,7 @@
 ghost use Rattle.std.specs.Prelude.{◌≡◌, ◌+◌, ◌-◌, ◌<◌, ◌≤◌, [], ◌∷◌, ◌++◌, None, IfOk, OnOk, length, replicate};
 ghost use Rattle.jlr_trace_fields.specs.Reading.{Reads};
 ghost use Rattle.jlr_trace_fields.specs.Items.{Rises, rising_items_at, rising_at};
-ghost use Rattle.jlr_parts.specs.Records.{placed_after};
+ghost use Rattle.jlr_trace_fields.specs.Records.{placed_after};
 ghost use Rattle.std.specs.List.{AllByRecursion};
 ghost use Rattle.jlr_sections.specs.Images.{listed_from, placed, held, places_of};
 
@@ -12,7 +12,7 @@ use jlr_trace_fields::version::Version;
 use jlr_machine::items::Items;
 use jlr_machine::object::Object;
 use jlr_machine::table::Table;
-use jlr_parts::record::{Held, Placed, take_placed};
+use jlr_trace_fields::parts::record::{Held, Placed, take_placed};
 use jlr_types::Slot;
 use std::alloc::{AllocError, Global};
 

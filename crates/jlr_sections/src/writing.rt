@@ -3,7 +3,7 @@ ghost use Rattle.std.specs.Prelude.{◌≡◌, ◌+◌, ◌<◌, ◌≤◌, ◌^
 ghost use Rattle.std.specs.List.{flat_map, AllByRecursion};
 ghost use Rattle.jlr_machine.specs.Objects.{at, occupied};
 ghost use Rattle.jlr_trace_fields.specs.Spelling.{spelled_option};
-ghost use Rattle.jlr_parts.specs.Records.{spelled_held, spelled_placed, PlacedCounts, spelled_call};
+ghost use Rattle.jlr_trace_fields.specs.Records.{spelled_held, spelled_placed, PlacedCounts, spelled_call};
 ghost use Rattle.jlr_sections.specs.Images.{listed_from, placed, held, spelled_head, head_of, spelled_waiting};
 ghost use Rattle.jlr_sections.specs.Images.{waiting_of, spelled_records, records_of, spelled_counts, counts_of};
 ghost use Rattle.jlr_sections.specs.Images.{image_text, spelled_image, whole_image};
@@ -14,8 +14,8 @@ use jlr_trace_fields::number::{put_option, put_slot, put_u8, put_u16, put_u32, p
 use jlr_machine::machine::{Machine, Session};
 use jlr_machine::object::Object;
 use jlr_machine::table::Table;
-use jlr_parts::items::{put_each, put_list};
-use jlr_parts::record::{Placed, put_call, put_placed};
+use jlr_trace_fields::parts::items::{put_each, put_list};
+use jlr_trace_fields::parts::record::{Placed, put_call, put_placed};
 use jlr_types::Slot;
 use std::alloc::AllocError;
 

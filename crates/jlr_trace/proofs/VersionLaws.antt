@@ -10,9 +10,9 @@ use Rattle.jlr_machine.specs.declared.ask.Ask.{Ask}
 use Rattle.jlr_machine.specs.declared.ask.Ask.TheVariants.{Put, Get, SetInt, Int, Array}
 use Rattle.jlr_machine.specs.declared.entry.Entry.{Entry}
 use Rattle.jlr_trace_fields.specs.declared.version.Version.TheVariants.{One, Two}
-use Rattle.jlr_parts.specs.declared.record.Placed.{Placed}
-use Rattle.jlr_parts.specs.Objects.{ObjectFits}
-use Rattle.jlr_parts.specs.Records.{PlacedFits}
+use Rattle.jlr_trace_fields.specs.declared.parts.record.Placed.{Placed}
+use Rattle.jlr_trace_fields.specs.Objects.{ObjectFits}
+use Rattle.jlr_trace_fields.specs.Records.{PlacedFits}
 use Rattle.jlr_asks.specs.Asks.{FieldFits, AskFits}
 use Rattle.jlr_sections.specs.Entries.{EntryFits}
 use Rattle.jlr_sections.specs.Images.{ImageText, ImageFits}

@@ -13,7 +13,7 @@ use Rattle.jlr_trace_fields.specs.declared.version.Version.{Version}
 use Rattle.jlr_trace_fields.specs.declared.version.Version.TheVariants.{One, Two}
 use Rattle.jlr_trace_fields.specs.Spelling.{spelled_64}
 use Rattle.jlr_trace_fields.specs.Reading.{number_at}
-use Rattle.jlr_parts.specs.declared.record.Placed.{Placed}
+use Rattle.jlr_trace_fields.specs.declared.parts.record.Placed.{Placed}
 use Rattle.jlr_trace.specs.declared.file.TraceFile.{TraceFile}
 use Rattle.jlr_trace.specs.declared.file.TraceFault.{TraceFault}
 use Rattle.jlr_trace.specs.declared.file.TraceFault.TheVariants.{Truncated, BadMark, BadVersion, BadEntry, NoMemory}

@@ -8,7 +8,7 @@ use Rattle.jlr_machine.specs.declared.machine.Machine.{Machine}
 use Rattle.jlr_trace_fields.specs.declared.version.Version.{Version}
 use Rattle.jlr_trace_fields.specs.Reading.{number_at}
 use Rattle.jlr_trace_fields.specs.Spelling.{IsBytes}
-use Rattle.jlr_parts.specs.declared.record.Placed.{Placed}
+use Rattle.jlr_trace_fields.specs.declared.parts.record.Placed.{Placed}
 use Rattle.jlr_sections.specs.Images.{ImageText, image_read}
 use Rattle.jlr_trace.specs.declared.file.TraceFile.{TraceFile}
 use Rattle.jlr_trace.specs.declared.file.TraceFault.{TraceFault}

@@ -19,7 +19,7 @@ use jlr_trace_fields::version::Version;
 use jlr_machine::entry::Entry;
 use jlr_machine::items::Items;
 use jlr_machine::machine::Machine;
-use jlr_parts::record::Placed;
+use jlr_trace_fields::parts::record::Placed;
 use jlr_sections::entry::take_entry;
 use jlr_sections::image::{Image, take_image};
 use std::alloc::{AllocError, AllocFailed, Global};

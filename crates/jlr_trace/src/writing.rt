@@ -11,7 +11,7 @@ use jlr_trace_fields::number::put_u64;
 use jlr_trace_fields::version::Version;
 use jlr_machine::entry::Entry;
 use jlr_machine::machine::Machine;
-use jlr_parts::record::Placed;
+use jlr_trace_fields::parts::record::Placed;
 use jlr_sections::entry::put_entry;
 use jlr_sections::writing::put_image;
 use std::alloc::{AllocError, Global};

@@ -7,3 +7,6 @@ pub mod Rising
 pub mod Loop
 pub mod RisingLoop
 pub mod Writing
+pub mod TableLaws
+pub mod Objects
+pub mod Records

@@ -5,8 +5,8 @@ use Rattle.jlr_machine.specs.declared.object.Object.{Object}
 use Rattle.jlr_trace_fields.specs.Items.{rising_items_at}
 use Rattle.jlr_trace_fields.proofs.Loop.{with_front}
 use Rattle.jlr_trace_fields.proofs.RisingLoop.{goes_on, ends, is_done}
-use Rattle.jlr_parts.specs.declared.record.Placed.{Placed}
-use Rattle.jlr_parts.specs.Records.{placed_after}
+use Rattle.jlr_trace_fields.specs.declared.parts.record.Placed.{Placed}
+use Rattle.jlr_trace_fields.specs.Records.{placed_after}
 use Rattle.jlr_sections.specs.Images.{listed_from, placed}
 use Rattle.jlr_sections.proofs.Placing.{above-next, placed_follows, padded}
 use Rattle.jlr_sections.proofs.places.placed_at.Goals as goal

@@ -2,7 +2,7 @@ use Rattle.std.proofs.Common.{◌≡◌, ◌-◌, ◌<◌, ◌≤◌, ◌++◌, 
 use Rattle.std.specs.List.{AllByRecursion}
 use Rattle.jlr_trace_fields.specs.Items.{rising_items_at}
 use Rattle.jlr_trace_fields.proofs.Loop.{with_front}
-use Rattle.jlr_parts.specs.Records.{placed_after}
+use Rattle.jlr_trace_fields.specs.Records.{placed_after}
 use Rattle.jlr_sections.specs.Images.{listed_from, placed}
 use Rattle.jlr_sections.proofs.Placing.{next_of}
 use Rattle.jlr_sections.proofs.places.placed_at.Given as goal

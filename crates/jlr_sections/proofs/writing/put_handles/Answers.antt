@@ -2,7 +2,7 @@ use Rattle.std.proofs.Common.{◌≡◌, ◌++◌, length, subst}
 use Rattle.std.specs.List.{flat_map}
 use Rattle.jlr_trace_fields.specs.Spelling.{spelled_32}
 use Rattle.jlr_trace_fields.proofs.Writing.{then_written}
-use Rattle.jlr_parts.specs.Records.{spelled_held}
+use Rattle.jlr_trace_fields.specs.Records.{spelled_held}
 use Rattle.jlr_sections.specs.Images.{listed_from, held}
 use Rattle.jlr_sections.proofs.writing.put_handles.Goals as goal
 

@@ -1,6 +1,6 @@
 use Rattle.std.proofs.Common.{◌≡◌, ◌++◌, take}
 use Rattle.std.specs.List.{flat_map}
-use Rattle.jlr_parts.specs.Records.{spelled_held}
+use Rattle.jlr_trace_fields.specs.Records.{spelled_held}
 use Rattle.jlr_sections.specs.Images.{listed_from, held}
 use Rattle.jlr_sections.proofs.writing.put_held.Given as goal
 

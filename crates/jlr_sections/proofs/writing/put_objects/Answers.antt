@@ -4,7 +4,7 @@ use Rattle.std.specs.List.{flat_map}
 use Rattle.std.proofs.lemmas.Grind.{flat_map-append}
 use Rattle.jlr_trace_fields.specs.Spelling.{spelled_32}
 use Rattle.jlr_trace_fields.proofs.Writing.{joined, then_written}
-use Rattle.jlr_parts.specs.Records.{spelled_placed}
+use Rattle.jlr_trace_fields.specs.Records.{spelled_placed}
 use Rattle.jlr_sections.specs.Images.{listed_from, placed}
 use Rattle.jlr_sections.proofs.writing.put_objects.Goals as goal
 

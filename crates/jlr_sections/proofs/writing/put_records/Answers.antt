@@ -3,7 +3,7 @@ use Rattle.jlr_machine.specs.declared.machine.Machine.{Machine}
 use Rattle.jlr_trace_fields.specs.Spelling.{spelled_32}
 use Rattle.jlr_trace_fields.specs.Items.{spelled_list}
 use Rattle.jlr_trace_fields.proofs.Writing.{joined, then_written}
-use Rattle.jlr_parts.specs.Records.{spelled_job, spelled_resource, spelled_failure}
+use Rattle.jlr_trace_fields.specs.Records.{spelled_job, spelled_resource, spelled_failure}
 use Rattle.jlr_sections.proofs.writing.put_records.Goals as goal
 
 pub returns : goal.returns

@@ -1,5 +1,5 @@
 use Rattle.std.proofs.Common.{◌≤◌, length, arith}
-use Rattle.jlr_parts.specs.Records.{spelled_placed}
+use Rattle.jlr_trace_fields.specs.Records.{spelled_placed}
 use Rattle.jlr_sections.specs.Images.{placed}
 use Rattle.jlr_sections.proofs.WritingLaws.{more_written, all_written, place_counts}
 use Rattle.jlr_sections.proofs.writing.put_table.Goals as goal

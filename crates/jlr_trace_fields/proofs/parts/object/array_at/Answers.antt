@@ -1,7 +1,7 @@
 use Rattle.std.proofs.Common.{arith}
 use Rattle.jlr_trace_fields.specs.Reading.{option_at}
 use Rattle.jlr_trace_fields.proofs.Lists.{items_counted}
-use Rattle.jlr_parts.proofs.object.array_at.Goals as goal
+use Rattle.jlr_trace_fields.proofs.parts.object.array_at.Goals as goal
 
 pub unwrap-requires : goal.unwrap-requires
 unwrap-requires c =

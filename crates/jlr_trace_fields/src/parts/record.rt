@@ -2,20 +2,20 @@
 ghost use Rattle.std.specs.Prelude.{◌≡◌, ◌++◌, OnOk};
 ghost use Rattle.jlr_trace_fields.specs.Reading.{Reads};
 ghost use Rattle.jlr_trace_fields.specs.Spelling.{spelled_32};
-ghost use Rattle.jlr_parts.specs.Objects.{ObjectCounts, spelled_object};
-ghost use Rattle.jlr_parts.specs.Records.{call_read, spelled_call, placed_after};
+ghost use Rattle.jlr_trace_fields.specs.Objects.{ObjectCounts, spelled_object};
+ghost use Rattle.jlr_trace_fields.specs.Records.{call_read, spelled_call, placed_after};
 
-use crate::items::{Item, Written};
-use crate::object::{object_at, put_object, put_work, take_work};
-use crate::rising::{Keyed, follows};
-use crate::tables::{put_fault, put_resource_state, take_fault, take_resource_state};
-use jlr_trace_fields::cursor::{
+use crate::parts::items::{Item, Written};
+use crate::parts::object::{object_at, put_object, put_work, take_work};
+use crate::parts::rising::{Keyed, follows};
+use crate::parts::tables::{put_fault, put_resource_state, take_fault, take_resource_state};
+use crate::cursor::{
     take_action, take_handle, take_name, take_rid, take_slot, take_u8, take_u32,
 };
-use jlr_trace_fields::fault::{Fault, ReadError};
-use jlr_trace_fields::number::{put_slot, put_u8, put_u32, put_u64};
-use jlr_trace_fields::text::put_text;
-use jlr_trace_fields::version::Version;
+use crate::fault::{Fault, ReadError};
+use crate::number::{put_slot, put_u8, put_u32, put_u64};
+use crate::text::put_text;
+use crate::version::Version;
 use jlr_machine::machine::{Binding, Call, Failure, Job, Resource};
 use jlr_machine::object::Object;
 use jlr_types::{Handle, Slot};
@@ -40,7 +40,7 @@ pub struct Held {
 }
 
 /// What a mutator is in the middle of.
-#[tactic(auto, unfolding(crate::specs::Records::call_read))]
+#[tactic(auto, unfolding(crate::parts::specs::Records::call_read))]
 pub fn take_call(bytes: &mut &[u8]) -> Result<Call, ReadError>
     ensures { Reads (λ x. x) result bytes.new.now (call_read bytes.old.now) }
 {
@@ -85,7 +85,7 @@ pub fn put_call(out: &mut Vec<u8>, call: Call) -> Result<(), AllocError>
 }
 
 impl Item for Binding {
-    ghost use Rattle.jlr_parts.specs.Records.{binding_read};
+    ghost use Rattle.jlr_trace_fields.specs.Records.{binding_read};
 
     ghost read_at = { binding_read };
 
@@ -93,7 +93,7 @@ impl Item for Binding {
 
     const LEAST: usize = 6;
 
-    #[tactic(auto, unfolding(crate::specs::Records::binding_read))]
+    #[tactic(auto, unfolding(crate::parts::specs::Records::binding_read))]
     fn read(_alloc: Global, bytes: &mut &[u8]) -> Result<Self, ReadError> {
         let name = take_name(bytes)?;
         let slot = take_slot(bytes)?;
@@ -102,7 +102,7 @@ impl Item for Binding {
 }
 
 impl Written for Binding {
-    ghost use Rattle.jlr_parts.specs.Records.{spelled_binding};
+    ghost use Rattle.jlr_trace_fields.specs.Records.{spelled_binding};
 
     ghost spelled = { spelled_binding };
 
@@ -115,7 +115,7 @@ impl Written for Binding {
 }
 
 impl Item for Failure {
-    ghost use Rattle.jlr_parts.specs.Records.{failure_read};
+    ghost use Rattle.jlr_trace_fields.specs.Records.{failure_read};
 
     ghost read_at = { failure_read };
 
@@ -123,7 +123,7 @@ impl Item for Failure {
 
     const LEAST: usize = 9;
 
-    #[tactic(auto, unfolding(crate::specs::Records::failure_read))]
+    #[tactic(auto, unfolding(crate::parts::specs::Records::failure_read))]
     fn read(_alloc: Global, bytes: &mut &[u8]) -> Result<Self, ReadError> {
         let action = take_action(bytes)?;
         let fault = take_fault(bytes)?;
@@ -132,7 +132,7 @@ impl Item for Failure {
 }
 
 impl Written for Failure {
-    ghost use Rattle.jlr_parts.specs.Records.{spelled_failure};
+    ghost use Rattle.jlr_trace_fields.specs.Records.{spelled_failure};
 
     ghost spelled = { spelled_failure };
 
@@ -145,7 +145,7 @@ impl Written for Failure {
 }
 
 impl Keyed for Job {
-    ghost use Rattle.jlr_parts.specs.Records.{job_after};
+    ghost use Rattle.jlr_trace_fields.specs.Records.{job_after};
 
     ghost read_after = { job_after };
 
@@ -159,7 +159,7 @@ impl Keyed for Job {
         self.action.number()
     }
 
-    #[tactic(auto, unfolding(crate::specs::Records::job_after))]
+    #[tactic(auto, unfolding(crate::parts::specs::Records::job_after))]
     fn read(_alloc: Global, before: Option<u64>, bytes: &mut &[u8]) -> Result<Self, ReadError> {
         let action = take_action(bytes)?;
         if !follows(before, action.number()) {
@@ -172,7 +172,7 @@ impl Keyed for Job {
 }
 
 impl Written for Job {
-    ghost use Rattle.jlr_parts.specs.Records.{spelled_job};
+    ghost use Rattle.jlr_trace_fields.specs.Records.{spelled_job};
 
     ghost spelled = { spelled_job };
 
@@ -186,7 +186,7 @@ impl Written for Job {
 }
 
 impl Keyed for Resource {
-    ghost use Rattle.jlr_parts.specs.Records.{resource_after};
+    ghost use Rattle.jlr_trace_fields.specs.Records.{resource_after};
 
     ghost read_after = { resource_after };
 
@@ -200,7 +200,7 @@ impl Keyed for Resource {
         self.rid.number() as u64
     }
 
-    #[tactic(auto, unfolding(crate::specs::Records::resource_after))]
+    #[tactic(auto, unfolding(crate::parts::specs::Records::resource_after))]
     fn read(_alloc: Global, before: Option<u64>, bytes: &mut &[u8]) -> Result<Self, ReadError> {
         let rid = take_rid(bytes)?;
         if !follows(before, rid.number() as u64) {
@@ -213,7 +213,7 @@ impl Keyed for Resource {
 }
 
 impl Written for Resource {
-    ghost use Rattle.jlr_parts.specs.Records.{spelled_resource};
+    ghost use Rattle.jlr_trace_fields.specs.Records.{spelled_resource};
 
     ghost spelled = { spelled_resource };
 
@@ -227,7 +227,7 @@ impl Written for Resource {
 }
 
 /// An object and its slot, which is above the one before it.
-#[tactic(auto, unfolding(crate::specs::Records::placed_after))]
+#[tactic(auto, unfolding(crate::parts::specs::Records::placed_after))]
 pub fn take_placed(
     alloc: Global,
     version: Version,
@@ -254,7 +254,7 @@ pub fn put_placed(out: &mut Vec<u8>, slot: Slot, object: &Object) -> Result<(), 
 }
 
 impl Written for Placed {
-    ghost use Rattle.jlr_parts.specs.Records.{spelled_placed, PlacedCounts};
+    ghost use Rattle.jlr_trace_fields.specs.Records.{spelled_placed, PlacedCounts};
 
     ghost spelled = { spelled_placed };
 
@@ -266,7 +266,7 @@ impl Written for Placed {
 }
 
 impl Keyed for Held {
-    ghost use Rattle.jlr_parts.specs.Records.{held_after};
+    ghost use Rattle.jlr_trace_fields.specs.Records.{held_after};
 
     ghost read_after = { held_after };
 
@@ -280,7 +280,7 @@ impl Keyed for Held {
         self.handle.number() as u64
     }
 
-    #[tactic(auto, unfolding(crate::specs::Records::held_after))]
+    #[tactic(auto, unfolding(crate::parts::specs::Records::held_after))]
     fn read(_alloc: Global, before: Option<u64>, bytes: &mut &[u8]) -> Result<Self, ReadError> {
         let handle = take_handle(bytes)?;
         if !follows(before, handle.number() as u64) {
@@ -292,7 +292,7 @@ impl Keyed for Held {
 }
 
 impl Written for Held {
-    ghost use Rattle.jlr_parts.specs.Records.{spelled_held};
+    ghost use Rattle.jlr_trace_fields.specs.Records.{spelled_held};
 
     ghost spelled = { spelled_held };
 

@@ -14,8 +14,8 @@ use Rattle.jlr_trace_fields.specs.Reading.{picked_at}
 use Rattle.jlr_trace_fields.specs.Spelling.{spelled_8}
 use Rattle.jlr_trace_fields.specs.Laws.{IsField}
 use Rattle.jlr_trace_fields.proofs.Basics.{picked}
-use Rattle.jlr_parts.specs.Tables.{ref_kinds, ref_kind_number, ref_states, ref_state_number, clean_states, clean_state_number}
-use Rattle.jlr_parts.specs.Tables.{resource_states, resource_state_number, faults, fault_number}
+use Rattle.jlr_trace_fields.specs.Tables.{ref_kinds, ref_kind_number, ref_states, ref_state_number, clean_states, clean_state_number}
+use Rattle.jlr_trace_fields.specs.Tables.{resource_states, resource_state_number, faults, fault_number}
 
 ref_kind_again : (x : RefKind) (rest : List ℕ) → picked_at 0 ref_kinds (ref_kind_number x ∷ rest) ≡ Ok (x, rest)
 unfolding picked_at

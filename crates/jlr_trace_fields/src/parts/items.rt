@@ -4,10 +4,10 @@ ghost use Rattle.std.specs.List.{flat_map, AllByRecursion};
 ghost use Rattle.jlr_trace_fields.specs.Reading.{Reads};
 ghost use Rattle.jlr_trace_fields.specs.Items.{items_at, list_at, spelled_list};
 
-use jlr_trace_fields::cursor::{take_name, take_option, take_slot, take_u32};
-use jlr_trace_fields::fault::{Fault, ReadError};
-use jlr_trace_fields::number::{put_option, put_slot, put_u32};
-use jlr_trace_fields::text::put_text;
+use crate::cursor::{take_name, take_option, take_slot, take_u32};
+use crate::fault::{Fault, ReadError};
+use crate::number::{put_option, put_slot, put_u32};
+use crate::text::put_text;
 use jlr_machine::items::Items;
 use jlr_machine::text::Name;
 use jlr_types::Slot;
@@ -62,7 +62,7 @@ pub fn take_items<T: Item + Drop>(
 }
 
 /// A list. One that cannot fit in the bytes that are left is short, and takes no memory.
-#[tactic(auto, unfolding(jlr_trace_fields::specs::Items::list_at))]
+#[tactic(auto, unfolding(crate::specs::Items::list_at))]
 pub fn take_list<T: Item + Drop>(alloc: Global, bytes: &mut &[u8]) -> Result<Items<T>, ReadError>
     requires { T.LEAST < 256 }
     ensures { Reads (λ x. x) result bytes.new.now (list_at T.LEAST T.read_at bytes.old.now) }

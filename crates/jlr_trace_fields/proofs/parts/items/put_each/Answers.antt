@@ -1,6 +1,6 @@
 use Rattle.std.proofs.Common.{sym, subst}
 use Rattle.std.proofs.lemmas.List.Elements.{All-from_recursion}
-use Rattle.jlr_parts.proofs.items.put_each.Goals as goal
+use Rattle.jlr_trace_fields.proofs.parts.items.put_each.Goals as goal
 
 pub write-requires : goal.write-requires
 write-requires g c = subst g.T.Written.Counts (sym c.item-item.is)

@@ -14,11 +14,11 @@ use Rattle.jlr_trace_fields.specs.Spelling.{spelled_8, spelled_32, spelled_64, s
 use Rattle.jlr_trace_fields.specs.Reading.{Reader, ◌>>=◌, one_field, two_fields, byte_at, number_at, picked_at, text_at}
 use Rattle.jlr_trace_fields.specs.Reading.{is_name_byte}
 use Rattle.jlr_trace_fields.specs.Items.{may_follow}
-use Rattle.jlr_parts.specs.declared.record.Placed.{Placed}
-use Rattle.jlr_parts.specs.declared.record.Held.{Held}
-use Rattle.jlr_parts.specs.Tables.{faults, fault_number, resource_states, resource_state_number}
-use Rattle.jlr_parts.specs.Objects.{spelled_object, ObjectFits, ObjectCounts, object_read, spelled_work, WorkFits}
-use Rattle.jlr_parts.specs.Objects.{work_read}
+use Rattle.jlr_trace_fields.specs.declared.parts.record.Placed.{Placed}
+use Rattle.jlr_trace_fields.specs.declared.parts.record.Held.{Held}
+use Rattle.jlr_trace_fields.specs.Tables.{faults, fault_number, resource_states, resource_state_number}
+use Rattle.jlr_trace_fields.specs.Objects.{spelled_object, ObjectFits, ObjectCounts, object_read, spelled_work, WorkFits}
+use Rattle.jlr_trace_fields.specs.Objects.{work_read}
 
 abbrev pub NameFits : List ℕ → Type 0
 NameFits name = IsTextOf 1 32 is_name_byte name

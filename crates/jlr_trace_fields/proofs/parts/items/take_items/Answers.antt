@@ -1,7 +1,7 @@
 use Rattle.std.proofs.lemmas.Result.{err_from_is_err_and}
 use Rattle.jlr_trace_fields.specs.Items.{items_at}
 use Rattle.jlr_trace_fields.proofs.Loop.{goes_on, ends, is_done}
-use Rattle.jlr_parts.proofs.items.take_items.Goals as goal
+use Rattle.jlr_trace_fields.proofs.parts.items.take_items.Goals as goal
 
 pub returns-in_err-item : goal.returns-in_err-item
 returns-in_err-item g c =

@@ -3,8 +3,8 @@ ghost use Rattle.std.specs.Prelude.{◌≡◌, ◌<◌, None};
 ghost use Rattle.jlr_trace_fields.specs.Reading.{Reads};
 ghost use Rattle.jlr_trace_fields.specs.Items.{may_follow, rising_items_at, rising_at};
 
-use jlr_trace_fields::cursor::{take_slot, take_u32};
-use jlr_trace_fields::fault::{Fault, ReadError};
+use crate::cursor::{take_slot, take_u32};
+use crate::fault::{Fault, ReadError};
 use jlr_machine::items::Items;
 use jlr_types::Slot;
 use std::alloc::Global;
@@ -62,7 +62,7 @@ fn take_rising_items<T: Keyed + Drop>(
 }
 
 /// A list whose keys rise. One that cannot fit in the bytes that are left is short, and takes no memory.
-#[tactic(auto, unfolding(jlr_trace_fields::specs::Items::rising_at))]
+#[tactic(auto, unfolding(crate::specs::Items::rising_at))]
 pub fn take_rising<T: Keyed + Drop>(alloc: Global, bytes: &mut &[u8]) -> Result<Items<T>, ReadError>
     requires { T.LEAST < 256 }
     ensures { Reads (λ x. x) result bytes.new.now (rising_at T.LEAST T.read_after T.key_of bytes.old.now) }
@@ -75,7 +75,7 @@ pub fn take_rising<T: Keyed + Drop>(alloc: Global, bytes: &mut &[u8]) -> Result<
 }
 
 impl Keyed for Slot {
-    ghost use Rattle.jlr_parts.specs.Records.{slot_after};
+    ghost use Rattle.jlr_trace_fields.specs.Records.{slot_after};
 
     ghost read_after = { slot_after };
 
@@ -89,7 +89,7 @@ impl Keyed for Slot {
         self.number() as u64
     }
 
-    #[tactic(auto, unfolding(crate::specs::Records::slot_after))]
+    #[tactic(auto, unfolding(crate::parts::specs::Records::slot_after))]
     fn read(_alloc: Global, before: Option<u64>, bytes: &mut &[u8]) -> Result<Self, ReadError> {
         let slot = take_slot(bytes)?;
         if !follows(before, slot.number() as u64) {

@@ -23,16 +23,16 @@ use Rattle.jlr_trace_fields.specs.Laws.{TakesBehind, TakesSpelled, ReadsAgain, I
 use Rattle.jlr_trace_fields.proofs.Numbers.{four_bytes, eight_bytes}
 use Rattle.jlr_trace_fields.proofs.Basics.{byte, text}
 use Rattle.jlr_trace_fields.proofs.Products.{then_takes, made_takes, one_takes, two_takes, then_again, one_again, two_again}
-use Rattle.jlr_parts.specs.declared.record.Placed.{Placed}
-use Rattle.jlr_parts.specs.declared.record.Held.{Held}
-use Rattle.jlr_parts.specs.Tables.{resource_state_number}
-use Rattle.jlr_parts.specs.Objects.{spelled_object, spelled_work}
-use Rattle.jlr_parts.specs.Records.{NameFits, spelled_binding, BindingFits, binding_read, spelled_failure, FailureFits, failure_read}
-use Rattle.jlr_parts.specs.Records.{spelled_call, CallFits, call_behind, call_read, slot_after, spelled_job, JobFits, job_behind, job_after}
-use Rattle.jlr_parts.specs.Records.{spelled_resource, ResourceFits, resource_behind, resource_after, spelled_placed, PlacedFits}
-use Rattle.jlr_parts.specs.Records.{placed_behind, placed_after, spelled_held, HeldFits, held_behind, held_after}
-use Rattle.jlr_parts.proofs.TableLaws.{resource_state, fault}
-use Rattle.jlr_parts.proofs.Objects.{work, object}
+use Rattle.jlr_trace_fields.specs.declared.parts.record.Placed.{Placed}
+use Rattle.jlr_trace_fields.specs.declared.parts.record.Held.{Held}
+use Rattle.jlr_trace_fields.specs.Tables.{resource_state_number}
+use Rattle.jlr_trace_fields.specs.Objects.{spelled_object, spelled_work}
+use Rattle.jlr_trace_fields.specs.Records.{NameFits, spelled_binding, BindingFits, binding_read, spelled_failure, FailureFits, failure_read}
+use Rattle.jlr_trace_fields.specs.Records.{spelled_call, CallFits, call_behind, call_read, slot_after, spelled_job, JobFits, job_behind, job_after}
+use Rattle.jlr_trace_fields.specs.Records.{spelled_resource, ResourceFits, resource_behind, resource_after, spelled_placed, PlacedFits}
+use Rattle.jlr_trace_fields.specs.Records.{placed_behind, placed_after, spelled_held, HeldFits, held_behind, held_after}
+use Rattle.jlr_trace_fields.proofs.TableLaws.{resource_state, fault}
+use Rattle.jlr_trace_fields.proofs.Objects.{work, object}
 
 pub name : IsField (text_at 1 32 is_name_byte) spelled_text NameFits
 name = text 1 32 is_name_byte

@@ -3,28 +3,28 @@ ghost use Rattle.std.specs.Prelude.{◌≡◌, ◌≤◌, ◌∷◌, ◌++◌, O
 ghost use Rattle.std.specs.List.{flat_map};
 ghost use Rattle.jlr_trace_fields.specs.Reading.{Reads};
 ghost use Rattle.jlr_trace_fields.specs.Spelling.{spelled_16, spelled_option};
-ghost use Rattle.jlr_parts.specs.Objects.{value_read, spelled_value, work_read, spelled_work, plain_read, array_read};
-ghost use Rattle.jlr_parts.specs.Objects.{array_in as array_of, reference_read, queue_read, cleanable_read, guard_read};
-ghost use Rattle.jlr_parts.specs.Objects.{object_read, spelled_contents, spelled_object, spelled_reference};
-ghost use Rattle.jlr_parts.specs.Objects.{spelled_cleanable, ObjectCounts};
+ghost use Rattle.jlr_trace_fields.specs.Objects.{value_read, spelled_value, work_read, spelled_work, plain_read, array_read};
+ghost use Rattle.jlr_trace_fields.specs.Objects.{array_in as array_of, reference_read, queue_read, cleanable_read, guard_read};
+ghost use Rattle.jlr_trace_fields.specs.Objects.{object_read, spelled_contents, spelled_object, spelled_reference};
+ghost use Rattle.jlr_trace_fields.specs.Objects.{spelled_cleanable, ObjectCounts};
 
-use crate::items::{Item, Written, put_each, put_list, take_items, take_list};
-use crate::tables::{
+use crate::parts::items::{Item, Written, put_each, put_list, take_items, take_list};
+use crate::parts::tables::{
     put_clean_state, put_ref_kind, put_ref_state, take_clean_state, take_ref_kind, take_ref_state,
 };
-use jlr_trace_fields::cursor::{
+use crate::cursor::{
     take_action, take_flag, take_i64, take_option, take_rid, take_slot, take_u8, take_u16_within,
     take_u32, take_within,
 };
-use jlr_trace_fields::fault::{Fault, ReadError};
-use jlr_trace_fields::number::{put_i64, put_option, put_slot, put_u8, put_u16, put_u32, put_u64};
-use jlr_trace_fields::version::Version;
+use crate::fault::{Fault, ReadError};
+use crate::number::{put_i64, put_option, put_slot, put_u8, put_u16, put_u32, put_u64};
+use crate::version::Version;
 use jlr_machine::object::{Cleanable, Contents, Elements, Fields, Guard, Object, Reference};
 use jlr_types::{FieldValue, Slot, Work};
 use std::alloc::{AllocError, Global};
 
 /// What a cleaning action does.
-#[tactic(auto, unfolding(crate::specs::Objects::work_read))]
+#[tactic(auto, unfolding(crate::parts::specs::Objects::work_read))]
 pub fn take_work(bytes: &mut &[u8]) -> Result<Work, ReadError>
     ensures { Reads (λ x. x) result bytes.new.now (work_read bytes.old.now) }
 {
@@ -53,7 +53,7 @@ pub fn put_work(out: &mut Vec<u8>, work: Work) -> Result<(), AllocError>
     }
 }
 
-#[tactic(auto, unfolding(crate::specs::Objects::value_read))]
+#[tactic(auto, unfolding(crate::parts::specs::Objects::value_read))]
 fn field_at(bytes: &mut &[u8]) -> Result<FieldValue, ReadError>
     ensures { Reads (λ x. x) result bytes.new.now (value_read bytes.old.now) }
 {
@@ -67,7 +67,7 @@ fn field_at(bytes: &mut &[u8]) -> Result<FieldValue, ReadError>
 }
 
 impl Item for FieldValue {
-    ghost use Rattle.jlr_parts.specs.Objects.{value_read};
+    ghost use Rattle.jlr_trace_fields.specs.Objects.{value_read};
 
     ghost read_at = { value_read };
 
@@ -81,7 +81,7 @@ impl Item for FieldValue {
 }
 
 impl Written for FieldValue {
-    ghost use Rattle.jlr_parts.specs.Objects.{spelled_value};
+    ghost use Rattle.jlr_trace_fields.specs.Objects.{spelled_value};
 
     ghost spelled = { spelled_value };
 
@@ -101,7 +101,7 @@ impl Written for FieldValue {
     }
 }
 
-#[tactic(auto, unfolding(crate::specs::Objects::plain_read))]
+#[tactic(auto, unfolding(crate::parts::specs::Objects::plain_read))]
 fn plain_at(alloc: Global, bytes: &mut &[u8]) -> Result<Object, ReadError>
     ensures { Reads (λ x. x) result bytes.new.now (plain_read bytes.old.now) }
 {
@@ -110,7 +110,7 @@ fn plain_at(alloc: Global, bytes: &mut &[u8]) -> Result<Object, ReadError>
     Ok(Object::Plain(Contents::Typed(Fields::from_vec(fields).unwrap())))
 }
 
-#[tactic(auto, unfolding(crate::specs::Objects::array_read))]
+#[tactic(auto, unfolding(crate::parts::specs::Objects::array_read))]
 fn array_at(alloc: Global, bytes: &mut &[u8]) -> Result<Object, ReadError>
     ensures { Reads (λ x. x) result bytes.new.now (array_read bytes.old.now) }
 {
@@ -129,7 +129,7 @@ fn array_in(alloc: Global, version: Version, bytes: &mut &[u8]) -> Result<Object
     }
 }
 
-#[tactic(auto, unfolding(crate::specs::Objects::reference_read))]
+#[tactic(auto, unfolding(crate::parts::specs::Objects::reference_read))]
 fn reference_at(bytes: &mut &[u8]) -> Result<Object, ReadError>
     ensures { Reads (λ x. x) result bytes.new.now (reference_read bytes.old.now) }
 {
@@ -146,7 +146,7 @@ fn reference_at(bytes: &mut &[u8]) -> Result<Object, ReadError>
     Ok(Object::Reference(reference))
 }
 
-#[tactic(auto, unfolding(crate::specs::Objects::queue_read))]
+#[tactic(auto, unfolding(crate::parts::specs::Objects::queue_read))]
 fn queue_at(alloc: Global, bytes: &mut &[u8]) -> Result<Object, ReadError>
     ensures { Reads (λ x. x) result bytes.new.now (queue_read bytes.old.now) }
 {
@@ -154,7 +154,7 @@ fn queue_at(alloc: Global, bytes: &mut &[u8]) -> Result<Object, ReadError>
     Ok(Object::Queue(members))
 }
 
-#[tactic(auto, unfolding(crate::specs::Objects::cleanable_read))]
+#[tactic(auto, unfolding(crate::parts::specs::Objects::cleanable_read))]
 fn cleanable_at(bytes: &mut &[u8]) -> Result<Object, ReadError>
     ensures { Reads (λ x. x) result bytes.new.now (cleanable_read bytes.old.now) }
 {
@@ -171,7 +171,7 @@ fn cleanable_at(bytes: &mut &[u8]) -> Result<Object, ReadError>
     Ok(Object::Cleanable(cleanable))
 }
 
-#[tactic(auto, unfolding(crate::specs::Objects::guard_read))]
+#[tactic(auto, unfolding(crate::parts::specs::Objects::guard_read))]
 fn guard_at(bytes: &mut &[u8]) -> Result<Object, ReadError>
     ensures { Reads (λ x. x) result bytes.new.now (guard_read bytes.old.now) }
 {
@@ -181,7 +181,7 @@ fn guard_at(bytes: &mut &[u8]) -> Result<Object, ReadError>
 }
 
 /// An object: its kind, and what that kind has.
-#[tactic(auto, unfolding(crate::specs::Objects::object_read))]
+#[tactic(auto, unfolding(crate::parts::specs::Objects::object_read))]
 pub(crate) fn object_at(
     alloc: Global,
     version: Version,

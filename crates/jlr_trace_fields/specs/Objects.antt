@@ -22,8 +22,8 @@ use Rattle.jlr_trace_fields.specs.Spelling.{IsSigned, IsWithin, SlotFits}
 use Rattle.jlr_trace_fields.specs.Reading.{Reader, ◌>>=◌, one_field, two_fields, four_fields, byte_at, byte_within_at}
 use Rattle.jlr_trace_fields.specs.Reading.{number_at, number_within_at, signed_at, flag_at, option_at, picked_at}
 use Rattle.jlr_trace_fields.specs.Items.{items_at, list_at, spelled_list, IsListed}
-use Rattle.jlr_parts.specs.Tables.{ref_kinds, ref_kind_number, ref_states, ref_state_number, clean_states}
-use Rattle.jlr_parts.specs.Tables.{clean_state_number}
+use Rattle.jlr_trace_fields.specs.Tables.{ref_kinds, ref_kind_number, ref_states, ref_state_number, clean_states}
+use Rattle.jlr_trace_fields.specs.Tables.{clean_state_number}
 
 -- ---- Fields
 

@@ -2,7 +2,7 @@ use Rattle.std.proofs.Common.{None}
 use Rattle.std.proofs.lemmas.Result.{err_from_is_err_and}
 use Rattle.jlr_trace_fields.specs.Items.{rising_items_at}
 use Rattle.jlr_trace_fields.proofs.RisingLoop.{goes_on, ends, is_done}
-use Rattle.jlr_parts.proofs.rising.take_rising_items.Goals as goal
+use Rattle.jlr_trace_fields.proofs.parts.rising.take_rising_items.Goals as goal
 
 pub returns-in_err-item : goal.returns-in_err-item
 returns-in_err-item g c =

@@ -2,15 +2,15 @@
 ghost use Rattle.std.specs.Prelude.{◌≡◌, ◌++◌, OnOk};
 ghost use Rattle.jlr_trace_fields.specs.Spelling.{spelled_8};
 ghost use Rattle.jlr_trace_fields.specs.Reading.{Reads, picked_at};
-ghost use Rattle.jlr_parts.specs.Tables.{ref_kinds, ref_kind_number as number_of_kind, ref_states};
-ghost use Rattle.jlr_parts.specs.Tables.{ref_state_number as number_of_ref_state, clean_states};
-ghost use Rattle.jlr_parts.specs.Tables.{clean_state_number as number_of_clean_state, resource_states};
-ghost use Rattle.jlr_parts.specs.Tables.{resource_state_number as number_of_resource_state, faults};
-ghost use Rattle.jlr_parts.specs.Tables.{fault_number as number_of_fault};
+ghost use Rattle.jlr_trace_fields.specs.Tables.{ref_kinds, ref_kind_number as number_of_kind, ref_states};
+ghost use Rattle.jlr_trace_fields.specs.Tables.{ref_state_number as number_of_ref_state, clean_states};
+ghost use Rattle.jlr_trace_fields.specs.Tables.{clean_state_number as number_of_clean_state, resource_states};
+ghost use Rattle.jlr_trace_fields.specs.Tables.{resource_state_number as number_of_resource_state, faults};
+ghost use Rattle.jlr_trace_fields.specs.Tables.{fault_number as number_of_fault};
 
-use jlr_trace_fields::cursor::take_picked;
-use jlr_trace_fields::fault::ReadError;
-use jlr_trace_fields::number::put_u8;
+use crate::cursor::take_picked;
+use crate::fault::ReadError;
+use crate::number::put_u8;
 use jlr_machine::machine::ResourceState;
 use jlr_machine::object::{CleanState, RefState};
 use jlr_types::{Fault, RefKind};

@@ -1,3 +1,0 @@
-pub mod TableLaws
-pub mod Objects
-pub mod Records
