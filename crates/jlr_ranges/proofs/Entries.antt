@@ -33,8 +33,8 @@ use Rattle.jlr_histories.proofs.Collecting.{new_objects_fit}
 use Rattle.jlr_trace_fields.specs.declared.version.Version.TheVariants.{Two}
 use Rattle.jlr_trace_fields.specs.Items.{Rises}
 use Rattle.jlr_answers.specs.Answers.{AnswerFits}
-use Rattle.jlr_sections.specs.Choices.{SlotIs, itself, CollectedFits, CollectionFits, ChoiceFits}
-use Rattle.jlr_sections.specs.Entries.{EntryFits}
+use Rattle.jlr_trace_entries.specs.Choices.{SlotIs, itself, CollectedFits, CollectionFits, ChoiceFits}
+use Rattle.jlr_trace_entries.specs.Entries.{EntryFits}
 use Rattle.jlr_ranges.specs.Ranges.{AnswerRange, CollectedRange, ChoiceRange, EntryRange}
 use Rattle.jlr_ranges.proofs.Counting.{short, rising_distinct, rises}
 use Rattle.jlr_ranges.proofs.Objects.{object_within}

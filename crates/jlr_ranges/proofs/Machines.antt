@@ -24,7 +24,7 @@ use Rattle.jlr_trace_fields.specs.Records.{PlacedFits}
 use Rattle.jlr_trace.specs.declared.file.TraceFile.{TraceFile}
 use Rattle.jlr_trace.specs.Files.{image_of}
 use Rattle.jlr_machine.specs.declared.entry.Entry.{Entry}
-use Rattle.jlr_sections.specs.Images.{listed_from, placed, held, session_text, SessionFits, ImageFits, HasShape, HasPlaces, image_text}
+use Rattle.jlr_trace_entries.specs.Images.{listed_from, placed, held, session_text, SessionFits, ImageFits, HasShape, HasPlaces, image_text}
 use Rattle.jlr_ranges.specs.Ranges.{SeatRange, SessionRange, MachineRange, AreLimits}
 use Rattle.jlr_ranges.proofs.Counting.{short, rises}
 use Rattle.jlr_ranges.proofs.Workers.{few_jobs, few_resources}

@@ -8,8 +8,8 @@ use Rattle.jlr_trace_fields.specs.Items.{may_follow, Rises, IsRising}
 use Rattle.jlr_trace_fields.specs.declared.version.Version.TheVariants.{Two}
 use Rattle.jlr_trace_fields.specs.Objects.{ObjectFits}
 use Rattle.jlr_trace_fields.specs.Records.{PlacedFits, HeldFits}
-use Rattle.jlr_sections.specs.Images.{listed_from, placed, held}
-use Rattle.jlr_sections.proofs.WritingLaws.{counted, occupied_within}
+use Rattle.jlr_trace_entries.specs.Images.{listed_from, placed, held}
+use Rattle.jlr_trace_entries.proofs.WritingLaws.{counted, occupied_within}
 use Rattle.jlr_ranges.specs.Ranges.{HandleRange}
 
 abbrev Before : Option ℕ → ℕ → Type 0

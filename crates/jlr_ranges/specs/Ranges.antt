@@ -20,8 +20,8 @@ use Rattle.jlr_trace_fields.specs.Objects.{WorkFits, GuardFits}
 use Rattle.jlr_trace_fields.specs.Records.{NameFits, BindingFits, FailureFits, CallFits, JobFits, ResourceFits}
 use Rattle.jlr_asks.specs.Asks.{AskFits}
 use Rattle.jlr_answers.specs.Answers.{AnswerFits}
-use Rattle.jlr_sections.specs.Choices.{SlotIs}
-use Rattle.jlr_sections.specs.Images.{counts_of, CountsFit}
+use Rattle.jlr_trace_entries.specs.Choices.{SlotIs}
+use Rattle.jlr_trace_entries.specs.Images.{counts_of, CountsFit}
 
 -- ---- Objects
 

@@ -25,7 +25,7 @@ pub fn all_in_range<T: Ranged>(items: &[T])
 }
 
 impl Ranged for Slot {
-    ghost use Rattle.jlr_sections.specs.Choices.{SlotIs};
+    ghost use Rattle.jlr_trace_entries.specs.Choices.{SlotIs};
 
     ghost Range = { SlotIs };
 

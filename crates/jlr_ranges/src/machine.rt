@@ -1,6 +1,6 @@
 //! Machines.
 ghost use Rattle.jlr_trace_fields.specs.Records.{CallFits, NameFits};
-ghost use Rattle.jlr_sections.specs.Images.{counts_of, CountsFit};
+ghost use Rattle.jlr_trace_entries.specs.Images.{counts_of, CountsFit};
 ghost use Rattle.jlr_ranges.specs.Ranges.{MachineRange, SessionRange};
 
 use crate::list::{Ranged, all_in_range};

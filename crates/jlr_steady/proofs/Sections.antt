@@ -5,10 +5,10 @@ use Rattle.std.specs.Int.{w16, w32, w64}
 use Rattle.jlr_trace_fields.specs.declared.version.Version.{Version}
 use Rattle.jlr_trace_fields.specs.Reading.{two_fields, number_at}
 use Rattle.jlr_trace_fields.specs.Items.{items_at}
-use Rattle.jlr_sections.specs.Choices.{itself, collected_read, collection_read, fresh_read, made_choice, choice_read}
-use Rattle.jlr_sections.specs.Entries.{made_entry, entry_read}
-use Rattle.jlr_sections.specs.Images.{made_head, head_read, made_session, joined_read, session_read, waiting_read, records_read}
-use Rattle.jlr_sections.specs.Images.{counts_read, made_image, image_behind, image_read}
+use Rattle.jlr_trace_entries.specs.Choices.{itself, collected_read, collection_read, fresh_read, made_choice, choice_read}
+use Rattle.jlr_trace_entries.specs.Entries.{made_entry, entry_read}
+use Rattle.jlr_trace_entries.specs.Images.{made_head, head_read, made_session, joined_read, session_read, waiting_read, records_read}
+use Rattle.jlr_trace_entries.specs.Images.{counts_read, made_image, image_behind, image_read}
 use Rattle.jlr_steady.specs.Steady.{IsSteady}
 use Rattle.jlr_steady.proofs.Steps.{made, then_read, either, one, two, three, four, five}
 use Rattle.jlr_steady.proofs.Fields.{byte, number, number_within, byte_within, flag, option}

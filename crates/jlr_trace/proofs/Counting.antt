@@ -3,8 +3,8 @@ use Rattle.std.proofs.Common.{List, [], ◌∷◌}
 use Rattle.std.specs.List.{AllByRecursion}
 use Rattle.jlr_machine.specs.declared.entry.Entry.{Entry}
 use Rattle.jlr_trace_fields.specs.declared.version.Version.{Version}
-use Rattle.jlr_sections.specs.Entries.{EntryFits, EntryCounts}
-use Rattle.jlr_sections.proofs.Counting.{image_counts, entry_counts}
+use Rattle.jlr_trace_entries.specs.Entries.{EntryFits, EntryCounts}
+use Rattle.jlr_trace_entries.proofs.SectionCounts.{image_counts, entry_counts}
 use Rattle.jlr_trace.specs.declared.file.TraceFile.{TraceFile}
 use Rattle.jlr_trace.specs.Files.{image_of, HasSpelling}
 use Rattle.jlr_trace.specs.Writing.{FileCounts}

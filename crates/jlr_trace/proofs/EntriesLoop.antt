@@ -9,7 +9,7 @@ use Rattle.jlr_trace_fields.specs.declared.fault.ReadError.TheVariants as errors
 use Rattle.jlr_trace_fields.specs.declared.version.Version.{Version}
 use Rattle.jlr_trace_fields.specs.Reading.{Fails}
 use Rattle.jlr_trace.specs.declared.file.TraceFault.{TraceFault}
-use Rattle.jlr_sections.specs.Entries.{entry_read}
+use Rattle.jlr_trace_entries.specs.Entries.{entry_read}
 use Rattle.jlr_trace.specs.Files.{◌>>>◌, entries_read, told, FileFails}
 
 -- what was read before, and what is still read

@@ -17,13 +17,13 @@ use Rattle.jlr_trace_fields.specs.Spelling.{spelled_64, IsBytes}
 use Rattle.jlr_trace_fields.proofs.Numbers.{eight_bytes}
 use Rattle.jlr_trace.specs.declared.file.TraceFault.{TraceFault}
 use Rattle.jlr_trace.specs.declared.file.TraceFault.TheVariants.{Truncated, BadMark, BadVersion, BadEntry, NoMemory}
-use Rattle.jlr_sections.specs.Entries.{spelled_entry, EntryFits, entry_read}
-use Rattle.jlr_sections.specs.Images.{ImageText, spelled_image, ImageFits, image_read}
+use Rattle.jlr_trace_entries.specs.Entries.{spelled_entry, EntryFits, entry_read}
+use Rattle.jlr_trace_entries.specs.Images.{ImageText, spelled_image, ImageFits, image_read}
 use Rattle.jlr_trace.specs.Files.{FileText, FileGives, mark, version_number, ◌>>>◌, fault_in, in_entry, expected, version_read, mark_read}
 use Rattle.jlr_trace.specs.Files.{entries_read, front_read, file_read}
 use Rattle.jlr_trace.specs.Faults.{letters, FailsInHead, FailsInEntry, IsFault}
-use Rattle.jlr_sections.proofs.EntryLaws.{entry}
-use Rattle.jlr_sections.proofs.ImageLaws.{image}
+use Rattle.jlr_trace_entries.proofs.EntryLaws.{entry}
+use Rattle.jlr_trace_entries.proofs.ImageLaws.{image}
 use Rattle.jlr_trace.proofs.FileLaws.{Versioned, made_file, step_ok, field_ok, front_takes, mark_takes, mark_fits, expected_takes, whole}
 
 -- ---- The step that failed

@@ -19,12 +19,12 @@ use Rattle.jlr_trace_fields.proofs.Numbers.{eight_bytes}
 use Rattle.jlr_trace.specs.declared.file.TraceFile.{TraceFile}
 use Rattle.jlr_trace.specs.declared.file.TraceFault.{TraceFault}
 use Rattle.jlr_trace.specs.declared.file.TraceFault.TheVariants.{BadMark, BadVersion, BadEntry}
-use Rattle.jlr_sections.specs.Entries.{spelled_entry, EntryFits, entry_read}
-use Rattle.jlr_sections.specs.Images.{ImageText, spelled_image, image_read}
+use Rattle.jlr_trace_entries.specs.Entries.{spelled_entry, EntryFits, entry_read}
+use Rattle.jlr_trace_entries.specs.Images.{ImageText, spelled_image, image_read}
 use Rattle.jlr_trace.specs.Files.{FileText, file_text, version_number, mark, spelled_file, FileFits, ◌>>>◌, in_entry, expected}
 use Rattle.jlr_trace.specs.Files.{version_read, mark_read, entries_read, front_read, file_read, FileGives}
-use Rattle.jlr_sections.proofs.EntryLaws.{entry}
-use Rattle.jlr_sections.proofs.ImageLaws.{image}
+use Rattle.jlr_trace_entries.proofs.EntryLaws.{entry}
+use Rattle.jlr_trace_entries.proofs.ImageLaws.{image}
 
 -- the value of a step that did not fail
 pub step_ok : {A B : Type 0} (r : Result A TraceFault) (f : A → Result B TraceFault) (y : B) → (r >>> f) ≡ Ok y → (x : A) × (r ≡ Ok x)

@@ -1,9 +1,9 @@
 -- A file of the right shape is told by its text: what was written is read back as it was.
 use Rattle.std.proofs.Common.{◌≡◌, Result, Ok, Err, ap, ◌∙◌}
 use Rattle.std.specs.Prelude.{IfOk}
-use Rattle.jlr_sections.specs.declared.image.Image.{Image}
-use Rattle.jlr_sections.specs.Images.{HasShape}
-use Rattle.jlr_sections.proofs.Shapes.{one_image}
+use Rattle.jlr_trace_entries.specs.declared.image.Image.{Image}
+use Rattle.jlr_trace_entries.specs.Images.{HasShape}
+use Rattle.jlr_trace_entries.proofs.Shapes.{one_image}
 use Rattle.jlr_trace.specs.declared.file.TraceFile.{TraceFile}
 use Rattle.jlr_trace.specs.declared.file.TraceFault.{TraceFault}
 use Rattle.jlr_trace.specs.declared.file.TraceFault.TheVariants.{Truncated, BadMark, BadVersion, BadEntry, NoMemory}

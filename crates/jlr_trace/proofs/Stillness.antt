@@ -7,8 +7,8 @@ use Rattle.jlr_trace_fields.specs.declared.fault.Fault.TheVariants.{Short, Range
 use Rattle.jlr_trace_fields.specs.declared.version.Version.{Version}
 use Rattle.jlr_trace_fields.specs.declared.version.Version.TheVariants.{One, Two}
 use Rattle.jlr_trace_fields.specs.Reading.{Reader, number_at}
-use Rattle.jlr_sections.specs.Entries.{entry_read}
-use Rattle.jlr_sections.specs.Images.{ImageText, image_read}
+use Rattle.jlr_trace_entries.specs.Entries.{entry_read}
+use Rattle.jlr_trace_entries.specs.Images.{ImageText, image_read}
 use Rattle.jlr_steady.specs.Steady.{StillReads, IsSteady}
 use Rattle.jlr_steady.proofs.Fields.{number}
 use Rattle.jlr_steady.proofs.Sections.{entry, image}

@@ -13,10 +13,10 @@ use Rattle.jlr_trace_fields.specs.Spelling.{spelled_64, IsBytes}
 use Rattle.jlr_trace_fields.specs.Laws.{Takes}
 use Rattle.jlr_trace_fields.proofs.Steps.{Takes-then}
 use Rattle.jlr_trace_fields.proofs.Numbers.{eight_bytes}
-use Rattle.jlr_sections.specs.Entries.{spelled_entry, entry_read}
-use Rattle.jlr_sections.specs.Images.{ImageText, image_text, whole_image, HasShape, spelled_image, image_read}
-use Rattle.jlr_sections.proofs.EntryLaws.{entry}
-use Rattle.jlr_sections.proofs.ImageLaws.{image}
+use Rattle.jlr_trace_entries.specs.Entries.{spelled_entry, entry_read}
+use Rattle.jlr_trace_entries.specs.Images.{ImageText, image_text, whole_image, HasShape, spelled_image, image_read}
+use Rattle.jlr_trace_entries.proofs.EntryLaws.{entry}
+use Rattle.jlr_trace_entries.proofs.ImageLaws.{image}
 use Rattle.jlr_trace.specs.declared.file.TraceFault.{TraceFault}
 use Rattle.jlr_trace.specs.declared.file.TraceFault.TheVariants.{Truncated, BadMark, BadVersion, BadEntry, NoMemory}
 use Rattle.jlr_trace.specs.declared.window.StreamFault.{StreamFault}

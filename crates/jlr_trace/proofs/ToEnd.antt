@@ -7,7 +7,7 @@ use Rattle.jlr_trace_fields.specs.Reading.{number_at}
 use Rattle.jlr_trace_fields.specs.declared.version.Version.{Version}
 use Rattle.jlr_trace.specs.declared.file.TraceFault.{TraceFault}
 use Rattle.jlr_trace.specs.declared.file.TraceFault.TheVariants.{BadEntry, BadMark, BadVersion, NoMemory, Truncated}
-use Rattle.jlr_sections.specs.Images.{ImageText, image_read}
+use Rattle.jlr_trace_entries.specs.Images.{ImageText, image_read}
 use Rattle.jlr_trace.specs.Files.{FileFails, FileText, entries_read, file_read, front_read, in_entry, mark_read, ◌>>>◌}
 use Rattle.jlr_trace.specs.ToEnd.{entries_to_end}
 

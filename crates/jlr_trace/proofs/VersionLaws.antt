@@ -14,8 +14,8 @@ use Rattle.jlr_trace_fields.specs.declared.parts.record.Placed.{Placed}
 use Rattle.jlr_trace_fields.specs.Objects.{ObjectFits}
 use Rattle.jlr_trace_fields.specs.Records.{PlacedFits}
 use Rattle.jlr_asks.specs.Asks.{FieldFits, AskFits}
-use Rattle.jlr_sections.specs.Entries.{EntryFits}
-use Rattle.jlr_sections.specs.Images.{ImageText, ImageFits}
+use Rattle.jlr_trace_entries.specs.Entries.{EntryFits}
+use Rattle.jlr_trace_entries.specs.Images.{ImageText, ImageFits}
 use Rattle.jlr_trace.specs.Files.{FileText, FileFits}
 use Rattle.jlr_trace.specs.Versions.{object_fits_version_1, ask_fits_version_1, fits_version_1, in_version}
 

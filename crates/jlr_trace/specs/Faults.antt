@@ -11,8 +11,8 @@ use Rattle.jlr_trace_fields.specs.Spelling.{spelled_64}
 use Rattle.jlr_trace_fields.specs.Reading.{number_at}
 use Rattle.jlr_trace.specs.declared.file.TraceFault.{TraceFault}
 use Rattle.jlr_trace.specs.declared.file.TraceFault.TheVariants.{Truncated, BadMark, BadVersion, BadEntry, NoMemory}
-use Rattle.jlr_sections.specs.Entries.{spelled_entry, EntryFits, entry_read}
-use Rattle.jlr_sections.specs.Images.{ImageText, spelled_image, ImageFits, image_read}
+use Rattle.jlr_trace_entries.specs.Entries.{spelled_entry, EntryFits, entry_read}
+use Rattle.jlr_trace_entries.specs.Images.{ImageText, spelled_image, ImageFits, image_read}
 use Rattle.jlr_trace.specs.Files.{mark, version_number}
 
 -- JLRT

@@ -17,9 +17,9 @@ use Rattle.jlr_trace_fields.specs.declared.parts.record.Placed.{Placed}
 use Rattle.jlr_trace.specs.declared.file.TraceFile.{TraceFile}
 use Rattle.jlr_trace.specs.declared.file.TraceFault.{TraceFault}
 use Rattle.jlr_trace.specs.declared.file.TraceFault.TheVariants.{Truncated, BadMark, BadVersion, BadEntry, NoMemory}
-use Rattle.jlr_sections.specs.declared.image.Image.{Image}
-use Rattle.jlr_sections.specs.Entries.{spelled_entry, EntryFits, entry_read}
-use Rattle.jlr_sections.specs.Images.{ImageText, image_text, spelled_image, ImageFits, image_read, HasShape}
+use Rattle.jlr_trace_entries.specs.declared.image.Image.{Image}
+use Rattle.jlr_trace_entries.specs.Entries.{spelled_entry, EntryFits, entry_read}
+use Rattle.jlr_trace_entries.specs.Images.{ImageText, image_text, spelled_image, ImageFits, image_read, HasShape}
 
 -- ---- What a file says
 

@@ -9,7 +9,7 @@ use Rattle.jlr_trace_fields.specs.declared.version.Version.{Version}
 use Rattle.jlr_trace_fields.specs.Reading.{number_at}
 use Rattle.jlr_trace_fields.specs.Spelling.{IsBytes}
 use Rattle.jlr_trace_fields.specs.declared.parts.record.Placed.{Placed}
-use Rattle.jlr_sections.specs.Images.{ImageText, image_read}
+use Rattle.jlr_trace_entries.specs.Images.{ImageText, image_read}
 use Rattle.jlr_trace.specs.declared.file.TraceFile.{TraceFile}
 use Rattle.jlr_trace.specs.declared.file.TraceFault.{TraceFault}
 use Rattle.jlr_trace.specs.declared.file.TraceFault.TheVariants.{Truncated, BadEntry, NoMemory}

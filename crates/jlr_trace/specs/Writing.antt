@@ -1,7 +1,7 @@
 -- What writing a trace file asks of its sections: that their lists are short enough for their counts.
 use Rattle.std.specs.List.{AllByRecursion}
-use Rattle.jlr_sections.specs.Entries.{EntryCounts}
-use Rattle.jlr_sections.specs.Writing.{ImageCounts}
+use Rattle.jlr_trace_entries.specs.Entries.{EntryCounts}
+use Rattle.jlr_trace_entries.specs.Writing.{ImageCounts}
 use Rattle.jlr_trace.specs.declared.file.TraceFile.{TraceFile}
 
 pub record FileCounts (f : TraceFile) : Type 0 where

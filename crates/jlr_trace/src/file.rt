@@ -5,7 +5,7 @@ ghost use Rattle.jlr_trace_fields.specs.Reading.{number_at};
 ghost use Rattle.jlr_trace_fields.specs.declared.version.Version.TheVariants.{One, Two};
 ghost use Rattle.jlr_trace.specs.declared.file.TraceFault.TheVariants.{NoMemory};
 ghost use Rattle.jlr_trace.specs.declared.file.TraceFile.{TraceFile as TraceFileOf};
-ghost use Rattle.jlr_sections.specs.Images.{image_text, image_read, HasShape};
+ghost use Rattle.jlr_trace_entries.specs.Images.{image_text, image_read, HasShape};
 ghost use Rattle.jlr_trace.specs.Files.{FileText, image_of, file_text, spelled_file, FileFits, HasSpelling, told};
 ghost use Rattle.jlr_trace.specs.Files.{expected, version_read, mark_read, in_entry, entries_read, file_read};
 ghost use Rattle.jlr_trace.specs.Files.{FileGives, FileReads};
@@ -20,8 +20,8 @@ use jlr_machine::entry::Entry;
 use jlr_machine::items::Items;
 use jlr_machine::machine::Machine;
 use jlr_trace_fields::parts::record::Placed;
-use jlr_sections::entry::take_entry;
-use jlr_sections::image::{Image, take_image};
+use jlr_trace_entries::entry::take_entry;
+use jlr_trace_entries::image::{Image, take_image};
 use std::alloc::{AllocError, AllocFailed, Global};
 
 /// A history: what is at its head, and what happened from there on.

@@ -1,8 +1,8 @@
 //! A trace file that is read as it comes: its image, and then its entries one at a time.
 ghost use Rattle.std.specs.Prelude.{◌≡◌, ◌+◌, ◌-◌, ◌<◌, ◌≤◌, ◌^◌, [], option_map, length, drop, IfOk, IfErr, OnOk};
 ghost use Rattle.std.specs.Io.KnownBytes.{Keeps, IsAtEnd};
-ghost use Rattle.jlr_sections.specs.Entries.{entry_read};
-ghost use Rattle.jlr_sections.specs.Images.{image_text, whole_image, HasShape};
+ghost use Rattle.jlr_trace_entries.specs.Entries.{entry_read};
+ghost use Rattle.jlr_trace_entries.specs.Images.{image_text, whole_image, HasShape};
 ghost use Rattle.jlr_trace.specs.declared.file.TraceFault.TheVariants.{Truncated};
 ghost use Rattle.jlr_trace.specs.declared.window.StreamFault.{StreamFault as StreamFaultOf};
 ghost use Rattle.jlr_trace.specs.Files.{in_entry, file_read, FileGives, FileReads};
@@ -17,8 +17,8 @@ use jlr_machine::entry::Entry;
 use jlr_machine::items::Items;
 use jlr_machine::machine::Machine;
 use jlr_trace_fields::parts::record::Placed;
-use jlr_sections::entry::take_entry;
-use jlr_sections::image::Image;
+use jlr_trace_entries::entry::take_entry;
+use jlr_trace_entries::image::Image;
 use std::alloc::Global;
 use std::io::{ErrorKind, Read};
 use std::marker::Model;

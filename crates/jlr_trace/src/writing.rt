@@ -1,7 +1,7 @@
 //! Writing a trace file.
 ghost use Rattle.std.specs.Prelude.{◌≡◌, ◌++◌, IfOk, OnOk};
 ghost use Rattle.std.specs.List.{flat_map, AllByRecursion};
-ghost use Rattle.jlr_sections.specs.Entries.{spelled_entry, EntryCounts};
+ghost use Rattle.jlr_trace_entries.specs.Entries.{spelled_entry, EntryCounts};
 ghost use Rattle.jlr_trace.specs.Writing.{FileCounts};
 ghost use Rattle.jlr_trace.specs.Files.{file_text, file_with, history_of, version_number, mark, spelled_file};
 ghost use Rattle.jlr_trace.specs.Files.{HasSpelling};
@@ -12,8 +12,8 @@ use jlr_trace_fields::version::Version;
 use jlr_machine::entry::Entry;
 use jlr_machine::machine::Machine;
 use jlr_trace_fields::parts::record::Placed;
-use jlr_sections::entry::put_entry;
-use jlr_sections::writing::put_image;
+use jlr_trace_entries::entry::put_entry;
+use jlr_trace_entries::writing::put_image;
 use std::alloc::{AllocError, Global};
 
 fn put_entries(out: &mut Vec<u8>, version: Version, entries: &[Entry]) -> Result<(), AllocError>

@@ -1,6 +1,6 @@
 use Rattle.std.proofs.Common.{◌∙◌, ap, sym}
 use Rattle.std.specs.Prelude.{Ok}
-use Rattle.jlr_sections.specs.Images.{image_text}
+use Rattle.jlr_trace_entries.specs.Images.{image_text}
 use Rattle.jlr_trace.specs.Files.{◌>>>◌}
 use Rattle.jlr_trace.proofs.ToEnd.{behind_image, fault_behind, file_with}
 use Rattle.jlr_trace.proofs.file.all_of.Goals as goal

@@ -1,5 +1,5 @@
 use Rattle.std.proofs.Common.{arith, ap}
-use Rattle.jlr_sections.specs.Entries.{entry_read}
+use Rattle.jlr_trace_entries.specs.Entries.{entry_read}
 use Rattle.jlr_trace.specs.Files.{in_entry}
 use Rattle.jlr_trace.proofs.StreamLaws.{entry_used, left_over}
 use Rattle.jlr_trace.proofs.streamed.entry_at.Goals as goal

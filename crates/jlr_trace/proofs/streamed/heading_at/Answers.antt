@@ -1,5 +1,5 @@
 use Rattle.std.proofs.Common.{arith}
-use Rattle.jlr_sections.specs.Images.{image_text}
+use Rattle.jlr_trace_entries.specs.Images.{image_text}
 use Rattle.jlr_trace.specs.Streams.{heading_text, heading_read}
 use Rattle.jlr_trace.proofs.StreamLaws.{heading_used, left_over}
 use Rattle.jlr_trace.proofs.streamed.heading_at.Goals as goal

@@ -1,4 +1,4 @@
-use Rattle.jlr_sections.specs.Entries.{entry_read}
+use Rattle.jlr_trace_entries.specs.Entries.{entry_read}
 use Rattle.jlr_trace.specs.Files.{in_entry}
 use Rattle.jlr_trace.specs.Streams.{known}
 use Rattle.jlr_trace.proofs.Stillness.{entry_is_still}

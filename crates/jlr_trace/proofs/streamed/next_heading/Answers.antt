@@ -1,4 +1,4 @@
-use Rattle.jlr_sections.specs.Images.{image_text}
+use Rattle.jlr_trace_entries.specs.Images.{image_text}
 use Rattle.jlr_trace.specs.Streams.{known, heading_text, heading_read}
 use Rattle.jlr_trace.proofs.Stillness.{heading_is_still}
 use Rattle.jlr_trace.proofs.Windows.{used_on, bytes_used, last_on}

@@ -1,5 +1,5 @@
 use Rattle.std.proofs.Common.{ap, sym, ◌∙◌}
-use Rattle.jlr_sections.specs.Images.{image_text, whole_image}
+use Rattle.jlr_trace_entries.specs.Images.{image_text, whole_image}
 use Rattle.jlr_trace.specs.Streams.{HeadingText, heading_text, coming}
 use Rattle.jlr_trace.proofs.StreamLaws.{is_read_as, so_many_come, stream_fails, spells, fails_with, bytes_come}
 use Rattle.jlr_trace.proofs.streamed.streamed_trace.Goals as goal

@@ -6,7 +6,7 @@ use Rattle.std.proofs.lemmas.List.{append-nil}
 use Rattle.std.proofs.lemmas.List.Concat.{flat_map-cons}
 use Rattle.std.proofs.lemmas.List.Elements.{All-from_recursion}
 use Rattle.jlr_machine.specs.declared.entry.Entry.{Entry}
-use Rattle.jlr_sections.specs.Entries.{spelled_entry, EntryCounts}
+use Rattle.jlr_trace_entries.specs.Entries.{spelled_entry, EntryCounts}
 use Rattle.jlr_trace.proofs.writing.put_entries.Goals as goal
 
 pub put_entry-requires : goal.put_entry-requires

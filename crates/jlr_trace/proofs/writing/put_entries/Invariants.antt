@@ -1,6 +1,6 @@
 use Rattle.std.proofs.Common.{◌≡◌, ◌++◌, take}
 use Rattle.std.specs.List.{flat_map}
-use Rattle.jlr_sections.specs.Entries.{spelled_entry}
+use Rattle.jlr_trace_entries.specs.Entries.{spelled_entry}
 use Rattle.jlr_trace.proofs.writing.put_entries.Given as goal
 
 abbrev pub invariant-loop-entry : goal.invariant-loop-entry

@@ -3,8 +3,8 @@ use Rattle.std.specs.List.{flat_map}
 use Rattle.jlr_machine.specs.declared.entry.Entry.{Entry}
 use Rattle.jlr_trace_fields.specs.Spelling.{spelled_64}
 use Rattle.jlr_trace_fields.proofs.Writing.{joined, then_written}
-use Rattle.jlr_sections.specs.Entries.{spelled_entry}
-use Rattle.jlr_sections.specs.Images.{image_text, spelled_image}
+use Rattle.jlr_trace_entries.specs.Entries.{spelled_entry}
+use Rattle.jlr_trace_entries.specs.Images.{image_text, spelled_image}
 use Rattle.jlr_trace.specs.Files.{file_with, image_of, mark}
 use Rattle.jlr_trace.proofs.writing.put_file.Goals as goal
 

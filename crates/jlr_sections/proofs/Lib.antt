@@ -1,8 +1,0 @@
-pub mod Placing
-pub mod ChoiceLaws
-pub mod EntryLaws
-pub mod ImageLaws
-pub mod WritingLaws
-pub mod Shapes
-pub mod Counting
-pub mod Few
