@@ -15,8 +15,8 @@ use Rattle.jlr_trace_fields.specs.declared.version.Version.TheVariants.{One, Two
 use Rattle.jlr_trace_fields.specs.Reading.{is_name_byte}
 use Rattle.jlr_trace_fields.specs.Items.{items_at}
 use Rattle.jlr_trace_fields.specs.Tables.{ref_kinds, faults}
-use Rattle.jlr_asks.specs.Asks.{outcomes, modes, kind_read, layout_read, call_outcome_behind, call_outcome_read, field_read, tags}
-use Rattle.jlr_asks.specs.Asks.{array_read, body_of, ask_read}
+use Rattle.jlr_trace_entries.specs.Asks.{outcomes, modes, kind_read, layout_read, call_outcome_behind, call_outcome_read, field_read, tags}
+use Rattle.jlr_trace_entries.specs.Asks.{array_read, body_of, ask_read}
 use Rattle.jlr_steady.specs.Steady.{IsSteady}
 use Rattle.jlr_steady.proofs.Steps.{◌▸◌, made, never, then_read, either, one, two, three, four}
 use Rattle.jlr_steady.proofs.Fields.{byte, number, number_within, signed, byte_within, picked, picked_then, text, data_text}

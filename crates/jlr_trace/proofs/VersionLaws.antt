@@ -13,7 +13,7 @@ use Rattle.jlr_trace_fields.specs.declared.version.Version.TheVariants.{One, Two
 use Rattle.jlr_trace_fields.specs.declared.parts.record.Placed.{Placed}
 use Rattle.jlr_trace_fields.specs.Objects.{ObjectFits}
 use Rattle.jlr_trace_fields.specs.Records.{PlacedFits}
-use Rattle.jlr_asks.specs.Asks.{FieldFits, AskFits}
+use Rattle.jlr_trace_entries.specs.Asks.{FieldFits, AskFits}
 use Rattle.jlr_trace_entries.specs.Entries.{EntryFits}
 use Rattle.jlr_trace_entries.specs.Images.{ImageText, ImageFits}
 use Rattle.jlr_trace.specs.Files.{FileText, FileFits}

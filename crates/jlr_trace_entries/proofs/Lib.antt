@@ -6,3 +6,4 @@ pub mod WritingLaws
 pub mod Shapes
 pub mod SectionCounts
 pub mod Few
+pub mod Asks

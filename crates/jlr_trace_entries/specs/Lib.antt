@@ -2,3 +2,4 @@ pub mod Choices
 pub mod Entries
 pub mod Images
 pub mod Writing
+pub mod Asks

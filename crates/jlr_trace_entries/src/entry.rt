@@ -6,8 +6,8 @@ ghost use Rattle.jlr_trace_entries.specs.Entries.{entry_read, spelled_entry, Ent
 use crate::choice::{choice_at, put_choice};
 use jlr_answers::reading::take_answer;
 use jlr_answers::writing::put_answer;
-use jlr_asks::reading::take_ask;
-use jlr_asks::writing::put_ask;
+use crate::asks::reading::take_ask;
+use crate::asks::writing::put_ask;
 use jlr_trace_fields::cursor::take_u8;
 use jlr_trace_fields::fault::ReadError;
 use jlr_trace_fields::number::put_u8;

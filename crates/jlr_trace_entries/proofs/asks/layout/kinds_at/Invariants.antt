@@ -1,8 +1,8 @@
 use Rattle.std.proofs.Common.{◌≡◌, ◌-◌, length}
 use Rattle.jlr_trace_fields.specs.Items.{items_at}
 use Rattle.jlr_trace_fields.proofs.Loop.{with_front}
-use Rattle.jlr_asks.specs.Asks.{kind_read}
-use Rattle.jlr_asks.proofs.layout.kinds_at.Given as goal
+use Rattle.jlr_trace_entries.specs.Asks.{kind_read}
+use Rattle.jlr_trace_entries.proofs.asks.layout.kinds_at.Given as goal
 
 abbrev pub invariant-loop : goal.invariant-loop
 invariant-loop l = record {

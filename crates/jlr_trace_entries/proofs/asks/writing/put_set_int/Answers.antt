@@ -4,8 +4,8 @@ use Rattle.std.specs.Int.{w64, cast_signed, cast_unsigned}
 use Rattle.std.proofs.lemmas.Int.{to_z-of_z}
 use Rattle.jlr_trace_fields.specs.Spelling.{spelled_signed}
 use Rattle.jlr_trace_fields.proofs.Writing.{then_written}
-use Rattle.jlr_asks.specs.Asks.{spelled_field}
-use Rattle.jlr_asks.proofs.writing.put_set_int.Goals as goal
+use Rattle.jlr_trace_entries.specs.Asks.{spelled_field}
+use Rattle.jlr_trace_entries.proofs.asks.writing.put_set_int.Goals as goal
 
 pub returns : goal.returns
 returns c =

@@ -3,8 +3,8 @@ use Rattle.std.proofs.lemmas.List.{length-append}
 use Rattle.std.proofs.lemmas.Result.{err_from_is_err_and}
 use Rattle.jlr_trace_fields.specs.Items.{items_at}
 use Rattle.jlr_trace_fields.proofs.Loop.{goes_on, ends, is_done}
-use Rattle.jlr_asks.specs.Asks.{kind_read}
-use Rattle.jlr_asks.proofs.layout.kinds_at.Goals as goal
+use Rattle.jlr_trace_entries.specs.Asks.{kind_read}
+use Rattle.jlr_trace_entries.proofs.asks.layout.kinds_at.Goals as goal
 
 pub returns-in_err-kind : goal.returns-in_err-kind
 returns-in_err-kind c =

@@ -1,11 +1,11 @@
 //! Writes asks.
 ghost use Rattle.std.specs.Prelude.{◌≡◌, ◌++◌, [], ◌∷◌, OnOk};
 ghost use Rattle.jlr_trace_fields.specs.Spelling.{spelled_8, spelled_64, spelled_signed};
-ghost use Rattle.jlr_asks.specs.Asks.{outcome_number, spelled_field, FieldFits, spelled_ask, AskFits};
+ghost use Rattle.jlr_trace_entries.specs.Asks.{outcome_number, spelled_field, FieldFits, spelled_ask, AskFits};
 
-use crate::field::{put_field, put_length};
-use crate::layout::put_layout;
-use crate::outcome::{put_call_outcome, put_mode, put_outcome};
+use crate::asks::field::{put_field, put_length};
+use crate::asks::layout::put_layout;
+use crate::asks::outcome::{put_call_outcome, put_mode, put_outcome};
 use jlr_trace_fields::number::{put_i64, put_u8, put_u32, put_u64};
 use jlr_trace_fields::text::put_text;
 use jlr_trace_fields::version::Version;

@@ -4,8 +4,8 @@ use Rattle.std.specs.List.{flat_map}
 use Rattle.std.proofs.lemmas.List.{append-nil}
 use Rattle.std.proofs.lemmas.List.Concat.{flat_map-cons}
 use Rattle.jlr_types.specs.declared.FieldKind.{FieldKind}
-use Rattle.jlr_asks.specs.Asks.{spelled_kind, spelled_kind_at}
-use Rattle.jlr_asks.proofs.layout.put_kinds.Goals as goal
+use Rattle.jlr_trace_entries.specs.Asks.{spelled_kind, spelled_kind_at}
+use Rattle.jlr_trace_entries.proofs.asks.layout.put_kinds.Goals as goal
 
 more : (xs : List FieldKind) (i : ℕ) → flat_map spelled_kind (take (suc i) xs) ≡ flat_map spelled_kind (take i xs)
     ++ spelled_kind_at (slice_get xs i)

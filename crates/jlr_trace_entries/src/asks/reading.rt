@@ -10,13 +10,13 @@ ghost use Rattle.jlr_machine.specs.declared.ask.Ask.TheVariants.{Notes, Faults};
 ghost use Rattle.jlr_trace_fields.specs.Reading.{Reads, one_field, two_fields, three_fields, four_fields, byte_at, number_at};
 ghost use Rattle.jlr_trace_fields.specs.Reading.{signed_at, picked_at, text_at, is_name_byte};
 ghost use Rattle.jlr_trace_fields.specs.Tables.{ref_kinds};
-ghost use Rattle.jlr_asks.specs.Asks.{outcomes, modes, layout_read, call_outcome_read, field_read, array_read};
-ghost use Rattle.jlr_asks.specs.Asks.{ask_read};
+ghost use Rattle.jlr_trace_entries.specs.Asks.{outcomes, modes, layout_read, call_outcome_read, field_read, array_read};
+ghost use Rattle.jlr_trace_entries.specs.Asks.{ask_read};
 
-use crate::field::{field_at, length_at};
-use crate::layout::layout_at;
-use crate::outcome::{call_outcome_at, mode_at, outcome_at};
-use crate::tag::{Tag, tag_at};
+use crate::asks::field::{field_at, length_at};
+use crate::asks::layout::layout_at;
+use crate::asks::outcome::{call_outcome_at, mode_at, outcome_at};
+use crate::asks::tag::{Tag, tag_at};
 use jlr_trace_fields::cursor::{
     take_action, take_handle, take_i64, take_mutator, take_name, take_u8, take_u32,
 };
@@ -387,7 +387,7 @@ fn array_at(version: Version, bytes: &mut &[u8]) -> Result<Ask, ReadError>
 }
 
 /// An ask from the front: its number, and its fields.
-#[tactic(auto, unfolding(crate::specs::Asks::ask_read))]
+#[tactic(auto, unfolding(crate::asks::specs::Asks::ask_read))]
 pub fn take_ask(alloc: Global, version: Version, bytes: &mut &[u8]) -> Result<Ask, ReadError>
     ensures { Reads (λ x. x) result bytes.new.now (ask_read version bytes.old.now) }
 {

@@ -2,8 +2,8 @@
 ghost use Rattle.std.specs.Prelude.{◌≡◌, ◌++◌, OnOk};
 ghost use Rattle.jlr_trace_fields.specs.Spelling.{spelled_8};
 ghost use Rattle.jlr_trace_fields.specs.Reading.{Reads, picked_at};
-ghost use Rattle.jlr_asks.specs.Asks.{outcomes, outcome_number, modes, mode_number, call_outcome_read};
-ghost use Rattle.jlr_asks.specs.Asks.{spelled_call_outcome};
+ghost use Rattle.jlr_trace_entries.specs.Asks.{outcomes, outcome_number, modes, mode_number, call_outcome_read};
+ghost use Rattle.jlr_trace_entries.specs.Asks.{spelled_call_outcome};
 
 use jlr_trace_fields::cursor::{take_data, take_picked, take_u8, take_within};
 use jlr_trace_fields::fault::{Fault as ByteFault, ReadError};
@@ -39,7 +39,7 @@ pub(crate) fn put_outcome(out: &mut Vec<u8>, outcome: Outcome) -> Result<(), All
 }
 
 /// How a call on a resource ended.
-#[tactic(auto, unfolding(crate::specs::Asks::call_outcome_read))]
+#[tactic(auto, unfolding(crate::asks::specs::Asks::call_outcome_read))]
 pub(crate) fn call_outcome_at(alloc: Global, bytes: &mut &[u8]) -> Result<CallOutcome, ReadError>
     ensures { Reads (λ x. x) result bytes.new.now (call_outcome_read bytes.old.now) }
 {

@@ -3,7 +3,7 @@ ghost use Rattle.std.specs.Prelude.{◌≡◌, ◌++◌, OnOk};
 ghost use Rattle.std.specs.Int.{w16};
 ghost use Rattle.jlr_trace_fields.specs.Spelling.{spelled_16};
 ghost use Rattle.jlr_trace_fields.specs.Reading.{Reads, number_within_at};
-ghost use Rattle.jlr_asks.specs.Asks.{field_read, spelled_field, FieldFits};
+ghost use Rattle.jlr_trace_entries.specs.Asks.{field_read, spelled_field, FieldFits};
 
 use jlr_trace_fields::cursor::{take_u8, take_u16_within};
 use jlr_trace_fields::fault::ReadError;

@@ -31,23 +31,23 @@ use Rattle.jlr_trace_fields.specs.Reading.{text_at, is_name_byte}
 use Rattle.jlr_trace_fields.specs.Items.{items_at}
 use Rattle.jlr_trace_fields.specs.Tables.{ref_kinds, ref_kind_number, faults, fault_number}
 use Rattle.jlr_trace_fields.specs.Records.{NameFits}
-use Rattle.jlr_asks.specs.declared.tag.Tag.{Tag}
-use Rattle.jlr_asks.specs.declared.tag.Tag.TheVariants.{Join as TagJoin, Leave as TagLeave, New as TagNew}
-use Rattle.jlr_asks.specs.declared.tag.Tag.TheVariants.{Put as TagPut, Get as TagGet, SetInt as TagSetInt}
-use Rattle.jlr_asks.specs.declared.tag.Tag.TheVariants.{Int as TagInt, Dup as TagDup, Drop as TagDrop, Same as TagSame}
-use Rattle.jlr_asks.specs.declared.tag.Tag.TheVariants.{MakeRef as TagMakeRef, Deref as TagDeref, Refers as TagRefers}
-use Rattle.jlr_asks.specs.declared.tag.Tag.TheVariants.{Clear as TagClear, Enqueue as TagEnqueue}
-use Rattle.jlr_asks.specs.declared.tag.Tag.TheVariants.{Enqueued as TagEnqueued, MakeQueue as TagMakeQueue}
-use Rattle.jlr_asks.specs.declared.tag.Tag.TheVariants.{Poll as TagPoll, Remove as TagRemove}
-use Rattle.jlr_asks.specs.declared.tag.Tag.TheVariants.{MakeCleaner as TagMakeCleaner, Register as TagRegister}
-use Rattle.jlr_asks.specs.declared.tag.Tag.TheVariants.{Clean as TagClean, Prepare as TagPrepare, Opened as TagOpened}
-use Rattle.jlr_asks.specs.declared.tag.Tag.TheVariants.{CheckOut as TagCheckOut, CheckIn as TagCheckIn}
-use Rattle.jlr_asks.specs.declared.tag.Tag.TheVariants.{Close as TagClose, Finish as TagFinish, Bind as TagBind}
-use Rattle.jlr_asks.specs.declared.tag.Tag.TheVariants.{Find as TagFind, Unbind as TagUnbind, Names as TagNames}
-use Rattle.jlr_asks.specs.declared.tag.Tag.TheVariants.{Full as TagFull, Stat as TagStat, Notes as TagNotes}
-use Rattle.jlr_asks.specs.declared.tag.Tag.TheVariants.{Faults as TagFaults, HandOver as TagHandOver}
-use Rattle.jlr_asks.specs.declared.tag.Tag.TheVariants.{TakeUp as TagTakeUp, Begin as TagBegin, Collect as TagCollect}
-use Rattle.jlr_asks.specs.declared.tag.Tag.TheVariants.{Abandon as TagAbandon, Array as TagArray}
+use Rattle.jlr_trace_entries.specs.declared.asks.tag.Tag.{Tag}
+use Rattle.jlr_trace_entries.specs.declared.asks.tag.Tag.TheVariants.{Join as TagJoin, Leave as TagLeave, New as TagNew}
+use Rattle.jlr_trace_entries.specs.declared.asks.tag.Tag.TheVariants.{Put as TagPut, Get as TagGet, SetInt as TagSetInt}
+use Rattle.jlr_trace_entries.specs.declared.asks.tag.Tag.TheVariants.{Int as TagInt, Dup as TagDup, Drop as TagDrop, Same as TagSame}
+use Rattle.jlr_trace_entries.specs.declared.asks.tag.Tag.TheVariants.{MakeRef as TagMakeRef, Deref as TagDeref, Refers as TagRefers}
+use Rattle.jlr_trace_entries.specs.declared.asks.tag.Tag.TheVariants.{Clear as TagClear, Enqueue as TagEnqueue}
+use Rattle.jlr_trace_entries.specs.declared.asks.tag.Tag.TheVariants.{Enqueued as TagEnqueued, MakeQueue as TagMakeQueue}
+use Rattle.jlr_trace_entries.specs.declared.asks.tag.Tag.TheVariants.{Poll as TagPoll, Remove as TagRemove}
+use Rattle.jlr_trace_entries.specs.declared.asks.tag.Tag.TheVariants.{MakeCleaner as TagMakeCleaner, Register as TagRegister}
+use Rattle.jlr_trace_entries.specs.declared.asks.tag.Tag.TheVariants.{Clean as TagClean, Prepare as TagPrepare, Opened as TagOpened}
+use Rattle.jlr_trace_entries.specs.declared.asks.tag.Tag.TheVariants.{CheckOut as TagCheckOut, CheckIn as TagCheckIn}
+use Rattle.jlr_trace_entries.specs.declared.asks.tag.Tag.TheVariants.{Close as TagClose, Finish as TagFinish, Bind as TagBind}
+use Rattle.jlr_trace_entries.specs.declared.asks.tag.Tag.TheVariants.{Find as TagFind, Unbind as TagUnbind, Names as TagNames}
+use Rattle.jlr_trace_entries.specs.declared.asks.tag.Tag.TheVariants.{Full as TagFull, Stat as TagStat, Notes as TagNotes}
+use Rattle.jlr_trace_entries.specs.declared.asks.tag.Tag.TheVariants.{Faults as TagFaults, HandOver as TagHandOver}
+use Rattle.jlr_trace_entries.specs.declared.asks.tag.Tag.TheVariants.{TakeUp as TagTakeUp, Begin as TagBegin, Collect as TagCollect}
+use Rattle.jlr_trace_entries.specs.declared.asks.tag.Tag.TheVariants.{Abandon as TagAbandon, Array as TagArray}
 
 -- ---- Tables
 

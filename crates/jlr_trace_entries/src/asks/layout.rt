@@ -3,7 +3,7 @@ ghost use Rattle.std.specs.Prelude.{◌≡◌, ◌≤◌, ◌++◌, OnOk, length
 ghost use Rattle.std.specs.List.{flat_map};
 ghost use Rattle.jlr_trace_fields.specs.Reading.{Reads};
 ghost use Rattle.jlr_trace_fields.specs.Items.{items_at};
-ghost use Rattle.jlr_asks.specs.Asks.{kind_read, layout_read, spelled_kind, spelled_kind_at, spelled_layout};
+ghost use Rattle.jlr_trace_entries.specs.Asks.{kind_read, layout_read, spelled_kind, spelled_kind_at, spelled_layout};
 
 use jlr_trace_fields::cursor::{take_u8, take_within};
 use jlr_trace_fields::fault::{Fault, ReadError};
@@ -11,7 +11,7 @@ use jlr_trace_fields::number::put_u8;
 use jlr_types::{FieldKind, Layout};
 use std::alloc::AllocError;
 
-#[tactic(auto, unfolding(crate::specs::Asks::kind_read))]
+#[tactic(auto, unfolding(crate::asks::specs::Asks::kind_read))]
 fn kind_at(bytes: &mut &[u8]) -> Result<FieldKind, ReadError>
     ensures { Reads (λ x. x) result bytes.new.now (kind_read bytes.old.now) }
 {
@@ -38,7 +38,7 @@ fn kinds_at(count: u8, bytes: &mut &[u8]) -> Result<Layout, ReadError>
 }
 
 /// A layout of at most eight fields.
-#[tactic(auto, unfolding(crate::specs::Asks::layout_read))]
+#[tactic(auto, unfolding(crate::asks::specs::Asks::layout_read))]
 pub(crate) fn layout_at(bytes: &mut &[u8]) -> Result<Layout, ReadError>
     ensures { Reads (λ x. x) result bytes.new.now (layout_read bytes.old.now) }
 {
