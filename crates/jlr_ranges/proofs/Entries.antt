@@ -32,7 +32,7 @@ use Rattle.jlr_histories.proofs.Fitting.{answers_fit}
 use Rattle.jlr_histories.proofs.Collecting.{new_objects_fit}
 use Rattle.jlr_trace_fields.specs.declared.version.Version.TheVariants.{Two}
 use Rattle.jlr_trace_fields.specs.Items.{Rises}
-use Rattle.jlr_answers.specs.Answers.{AnswerFits}
+use Rattle.jlr_trace_entries.specs.Answers.{AnswerFits}
 use Rattle.jlr_trace_entries.specs.Choices.{SlotIs, itself, CollectedFits, CollectionFits, ChoiceFits}
 use Rattle.jlr_trace_entries.specs.Entries.{EntryFits}
 use Rattle.jlr_ranges.specs.Ranges.{AnswerRange, CollectedRange, ChoiceRange, EntryRange}

@@ -19,7 +19,7 @@ use Rattle.jlr_trace_fields.specs.Spelling.{IsSigned, IsWithin}
 use Rattle.jlr_trace_fields.specs.Objects.{WorkFits, GuardFits}
 use Rattle.jlr_trace_fields.specs.Records.{NameFits, BindingFits, FailureFits, CallFits, JobFits, ResourceFits}
 use Rattle.jlr_trace_entries.specs.Asks.{AskFits}
-use Rattle.jlr_answers.specs.Answers.{AnswerFits}
+use Rattle.jlr_trace_entries.specs.Answers.{AnswerFits}
 use Rattle.jlr_trace_entries.specs.Choices.{SlotIs}
 use Rattle.jlr_trace_entries.specs.Images.{counts_of, CountsFit}
 

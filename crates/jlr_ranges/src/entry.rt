@@ -3,7 +3,7 @@ ghost use Rattle.std.specs.Prelude.{◌<◌, ◌≤◌, length};
 ghost use Rattle.jlr_trace_fields.specs.declared.version.Version.TheVariants.{Two};
 ghost use Rattle.jlr_trace_fields.specs.Spelling.{IsBytes, IsText};
 ghost use Rattle.jlr_trace_entries.specs.Asks.{AskFits, CallOutcomeFits};
-ghost use Rattle.jlr_answers.specs.Answers.{StatFits};
+ghost use Rattle.jlr_trace_entries.specs.Answers.{StatFits};
 ghost use Rattle.jlr_ranges.specs.Ranges.{AnswerRange, ChoiceRange, CollectedRange};
 
 use crate::list::{Ranged, all_in_range};

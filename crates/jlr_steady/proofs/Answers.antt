@@ -5,7 +5,7 @@ use Rattle.jlr_machine.specs.declared.ask.Answer.TheVariants.{Done, Handle, Trut
 use Rattle.jlr_machine.specs.declared.ask.Answer.TheVariants.{Job, AlreadyDone, Prepared, Out, Handed, Refused}
 use Rattle.jlr_trace_fields.specs.Reading.{is_name_byte}
 use Rattle.jlr_trace_fields.specs.Tables.{faults}
-use Rattle.jlr_answers.specs.Answers.{refusals, handings, stat_read, tags, body_of, answer_read}
+use Rattle.jlr_trace_entries.specs.Answers.{refusals, handings, stat_read, tags, body_of, answer_read}
 use Rattle.jlr_steady.specs.Steady.{IsSteady}
 use Rattle.jlr_steady.proofs.Steps.{◌▸◌, made, one, two, five}
 use Rattle.jlr_steady.proofs.Fields.{byte, number, signed, byte_within, flag, picked, picked_then, text, data_text}

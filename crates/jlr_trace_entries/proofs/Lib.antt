@@ -7,3 +7,4 @@ pub mod Shapes
 pub mod SectionCounts
 pub mod Few
 pub mod Asks
+pub mod Answers

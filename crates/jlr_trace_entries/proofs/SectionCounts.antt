@@ -14,7 +14,7 @@ use Rattle.jlr_trace_fields.specs.declared.parts.record.Placed.{Placed}
 use Rattle.jlr_trace_fields.specs.declared.parts.record.Held.{Held}
 use Rattle.jlr_trace_fields.specs.Objects.{ObjectFits, ObjectCounts}
 use Rattle.jlr_trace_fields.specs.Records.{PlacedFits, PlacedCounts}
-use Rattle.jlr_answers.specs.Answers.{AnswerFits, AnswerCounts}
+use Rattle.jlr_trace_entries.specs.Answers.{AnswerFits, AnswerCounts}
 use Rattle.jlr_trace_entries.specs.declared.image.Image.{Image}
 use Rattle.jlr_trace_entries.specs.Choices.{CollectionFits, CollectionCounts}
 use Rattle.jlr_trace_entries.specs.Entries.{EntryFits, EntryCounts}

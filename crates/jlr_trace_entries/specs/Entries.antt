@@ -7,7 +7,7 @@ use Rattle.jlr_machine.specs.declared.entry.Entry.{Entry}
 use Rattle.jlr_trace_fields.specs.declared.version.Version.{Version}
 use Rattle.jlr_trace_fields.specs.Reading.{Reader, four_fields, byte_at}
 use Rattle.jlr_trace_entries.specs.Asks.{spelled_ask, AskFits, ask_read}
-use Rattle.jlr_answers.specs.Answers.{spelled_answer, AnswerFits, AnswerCounts, answer_read}
+use Rattle.jlr_trace_entries.specs.Answers.{spelled_answer, AnswerFits, AnswerCounts, answer_read}
 use Rattle.jlr_trace_entries.specs.Choices.{spelled_choice, ChoiceFits, ChoiceCounts, choice_read}
 
 abbrev pub spelled_entry : Version → Entry → List ℕ

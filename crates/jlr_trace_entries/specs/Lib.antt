@@ -3,3 +3,4 @@ pub mod Entries
 pub mod Images
 pub mod Writing
 pub mod Asks
+pub mod Answers

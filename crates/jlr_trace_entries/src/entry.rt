@@ -4,8 +4,8 @@ ghost use Rattle.jlr_trace_fields.specs.Reading.{Reads};
 ghost use Rattle.jlr_trace_entries.specs.Entries.{entry_read, spelled_entry, EntryCounts};
 
 use crate::choice::{choice_at, put_choice};
-use jlr_answers::reading::take_answer;
-use jlr_answers::writing::put_answer;
+use crate::answers::reading::take_answer;
+use crate::answers::writing::put_answer;
 use crate::asks::reading::take_ask;
 use crate::asks::writing::put_ask;
 use jlr_trace_fields::cursor::take_u8;

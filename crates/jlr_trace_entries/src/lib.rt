@@ -2,6 +2,7 @@
 //! own. How they stand in a whole file is said by `jlr_trace`.
 #![tactic(auto)]
 
+pub mod answers;
 pub mod asks;
 mod choice;
 pub mod entry;

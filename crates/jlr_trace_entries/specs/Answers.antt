@@ -22,13 +22,13 @@ use Rattle.jlr_trace_fields.specs.Items.{list_at, spelled_list, IsListed}
 use Rattle.jlr_trace_fields.specs.Tables.{faults, fault_number}
 use Rattle.jlr_trace_fields.specs.Objects.{spelled_work, WorkFits, work_read}
 use Rattle.jlr_trace_fields.specs.Records.{NameFits, spelled_failure, FailureFits, failure_read}
-use Rattle.jlr_answers.specs.declared.tag.Tag.{Tag}
-use Rattle.jlr_answers.specs.declared.tag.Tag.TheVariants.{Done as TagDone, Handle as TagHandle, Truth as TagTruth}
-use Rattle.jlr_answers.specs.declared.tag.Tag.TheVariants.{Int as TagInt, Data as TagData, Wrote as TagWrote}
-use Rattle.jlr_answers.specs.declared.tag.Tag.TheVariants.{Faulted as TagFaulted, Names as TagNames, Notes as TagNotes}
-use Rattle.jlr_answers.specs.declared.tag.Tag.TheVariants.{Faults as TagFaults, Stat as TagStat, Job as TagJob}
-use Rattle.jlr_answers.specs.declared.tag.Tag.TheVariants.{AlreadyDone as TagAlreadyDone, Prepared as TagPrepared}
-use Rattle.jlr_answers.specs.declared.tag.Tag.TheVariants.{Out as TagOut, Handed as TagHanded, Refused as TagRefused}
+use Rattle.jlr_trace_entries.specs.declared.answers.tag.Tag.{Tag}
+use Rattle.jlr_trace_entries.specs.declared.answers.tag.Tag.TheVariants.{Done as TagDone, Handle as TagHandle, Truth as TagTruth}
+use Rattle.jlr_trace_entries.specs.declared.answers.tag.Tag.TheVariants.{Int as TagInt, Data as TagData, Wrote as TagWrote}
+use Rattle.jlr_trace_entries.specs.declared.answers.tag.Tag.TheVariants.{Faulted as TagFaulted, Names as TagNames, Notes as TagNotes}
+use Rattle.jlr_trace_entries.specs.declared.answers.tag.Tag.TheVariants.{Faults as TagFaults, Stat as TagStat, Job as TagJob}
+use Rattle.jlr_trace_entries.specs.declared.answers.tag.Tag.TheVariants.{AlreadyDone as TagAlreadyDone, Prepared as TagPrepared}
+use Rattle.jlr_trace_entries.specs.declared.answers.tag.Tag.TheVariants.{Out as TagOut, Handed as TagHanded, Refused as TagRefused}
 
 -- ---- Tables
 

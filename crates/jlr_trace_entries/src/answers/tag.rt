@@ -1,7 +1,7 @@
 //! Which answer it is.
 ghost use Rattle.std.specs.Prelude.{◌≡◌};
 ghost use Rattle.jlr_trace_fields.specs.Reading.{Reads, picked_at};
-ghost use Rattle.jlr_answers.specs.Answers.{tags};
+ghost use Rattle.jlr_trace_entries.specs.Answers.{tags};
 
 use jlr_trace_fields::cursor::take_picked;
 use jlr_trace_fields::fault::ReadError;

@@ -1,7 +1,7 @@
 use Rattle.std.proofs.Common.{◌≡◌, ℕ, List, ◌++◌}
 use Rattle.jlr_trace_fields.specs.Spelling.{spelled_64}
 use Rattle.jlr_trace_fields.proofs.Writing.{joined, then_written}
-use Rattle.jlr_answers.proofs.detail.put_stat.Goals as goal
+use Rattle.jlr_trace_entries.proofs.answers.detail.put_stat.Goals as goal
 
 pub returns : goal.returns
 returns c =

@@ -1,17 +1,17 @@
 //! Reads answers.
 ghost use Rattle.std.specs.Prelude.{◌≡◌};
 ghost use Rattle.jlr_trace_fields.specs.Reading.{Reads};
-ghost use Rattle.jlr_answers.specs.declared.tag.Tag.TheVariants.{Handle as TagHandle, Truth as TagTruth, Int as TagInt};
-ghost use Rattle.jlr_answers.specs.declared.tag.Tag.TheVariants.{Data as TagData, Wrote as TagWrote};
-ghost use Rattle.jlr_answers.specs.declared.tag.Tag.TheVariants.{Faulted as TagFaulted, Names as TagNames};
-ghost use Rattle.jlr_answers.specs.declared.tag.Tag.TheVariants.{Notes as TagNotes, Faults as TagFaults};
-ghost use Rattle.jlr_answers.specs.declared.tag.Tag.TheVariants.{Stat as TagStat, Job as TagJob};
-ghost use Rattle.jlr_answers.specs.declared.tag.Tag.TheVariants.{Prepared as TagPrepared, Out as TagOut};
-ghost use Rattle.jlr_answers.specs.declared.tag.Tag.TheVariants.{Handed as TagHanded, Refused as TagRefused};
-ghost use Rattle.jlr_answers.specs.Answers.{answer_read, body_of};
+ghost use Rattle.jlr_trace_entries.specs.declared.answers.tag.Tag.TheVariants.{Handle as TagHandle, Truth as TagTruth, Int as TagInt};
+ghost use Rattle.jlr_trace_entries.specs.declared.answers.tag.Tag.TheVariants.{Data as TagData, Wrote as TagWrote};
+ghost use Rattle.jlr_trace_entries.specs.declared.answers.tag.Tag.TheVariants.{Faulted as TagFaulted, Names as TagNames};
+ghost use Rattle.jlr_trace_entries.specs.declared.answers.tag.Tag.TheVariants.{Notes as TagNotes, Faults as TagFaults};
+ghost use Rattle.jlr_trace_entries.specs.declared.answers.tag.Tag.TheVariants.{Stat as TagStat, Job as TagJob};
+ghost use Rattle.jlr_trace_entries.specs.declared.answers.tag.Tag.TheVariants.{Prepared as TagPrepared, Out as TagOut};
+ghost use Rattle.jlr_trace_entries.specs.declared.answers.tag.Tag.TheVariants.{Handed as TagHanded, Refused as TagRefused};
+ghost use Rattle.jlr_trace_entries.specs.Answers.{answer_read, body_of};
 
-use crate::detail::{handed_at, refusal_at, stat_at};
-use crate::tag::{Tag, tag_at};
+use crate::answers::detail::{handed_at, refusal_at, stat_at};
+use crate::answers::tag::{Tag, tag_at};
 use jlr_trace_fields::cursor::{
     take_action, take_data, take_flag, take_handle, take_i64, take_rid, take_within,
 };
@@ -130,7 +130,7 @@ fn refused_answer(bytes: &mut &[u8]) -> Result<Answer, ReadError>
 }
 
 /// An answer from the front: its number, and its fields.
-#[tactic(auto, unfolding(crate::specs::Answers::answer_read))]
+#[tactic(auto, unfolding(crate::answers::specs::Answers::answer_read))]
 pub fn take_answer(alloc: Global, bytes: &mut &[u8]) -> Result<Answer, ReadError>
     ensures { Reads (λ x. x) result bytes.new.now (answer_read bytes.old.now) }
 {

@@ -2,7 +2,7 @@
 ghost use Rattle.std.specs.Prelude.{◌≡◌, ◌++◌, OnOk};
 ghost use Rattle.jlr_trace_fields.specs.Spelling.{spelled_8};
 ghost use Rattle.jlr_trace_fields.specs.Reading.{Reads, picked_at};
-ghost use Rattle.jlr_answers.specs.Answers.{refusals, handings, handing_number, stat_read, spelled_stat};
+ghost use Rattle.jlr_trace_entries.specs.Answers.{refusals, handings, handing_number, stat_read, spelled_stat};
 
 use jlr_trace_fields::cursor::{take_picked, take_u64};
 use jlr_trace_fields::fault::ReadError;
@@ -65,7 +65,7 @@ pub(crate) fn put_handed(out: &mut Vec<u8>, handed: Handed) -> Result<(), AllocE
 }
 
 /// The machine's counts.
-#[tactic(auto, unfolding(crate::specs::Answers::stat_read))]
+#[tactic(auto, unfolding(crate::answers::specs::Answers::stat_read))]
 pub(crate) fn stat_at(bytes: &mut &[u8]) -> Result<Stat, ReadError>
     ensures { Reads (λ x. x) result bytes.new.now (stat_read bytes.old.now) }
 {

@@ -2,7 +2,6 @@
 //!
 //! An answer that is written is spelled so and read back as it was; else the first fault is told. It relies on the
 //! fields and parts of a file. Memory is taken for lists and for what a call read, and by the bytes that are written.
-#![tactic(auto)]
 
 mod detail;
 pub mod reading;

@@ -2,9 +2,9 @@
 ghost use Rattle.std.specs.Prelude.{◌≡◌, [], ◌∷◌, ◌++◌, OnOk, drop, take};
 ghost use Rattle.jlr_trace_fields.specs.Spelling.{spelled_64};
 ghost use Rattle.jlr_trace_fields.specs.Objects.{spelled_work};
-ghost use Rattle.jlr_answers.specs.Answers.{spelled_answer, AnswerCounts};
+ghost use Rattle.jlr_trace_entries.specs.Answers.{spelled_answer, AnswerCounts};
 
-use crate::detail::{put_handed, put_stat};
+use crate::answers::detail::{put_handed, put_stat};
 use jlr_trace_fields::number::{put_flag, put_i64, put_u8, put_u32, put_u64};
 use jlr_trace_fields::text::put_text;
 use jlr_machine::ask::Answer;
