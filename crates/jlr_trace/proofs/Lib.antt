@@ -8,3 +8,10 @@ pub mod Windows
 pub mod StreamLaws
 pub mod VersionLaws
 pub mod FaultLaws
+pub mod Steps
+pub mod Fields
+pub mod Items
+pub mod Parts
+pub mod Asks
+pub mod Answers
+pub mod Sections

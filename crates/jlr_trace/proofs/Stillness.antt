@@ -9,9 +9,9 @@ use Rattle.jlr_trace_fields.specs.declared.version.Version.TheVariants.{One, Two
 use Rattle.jlr_trace_fields.specs.Reading.{Reader, number_at}
 use Rattle.jlr_trace_entries.specs.Entries.{entry_read}
 use Rattle.jlr_trace_entries.specs.Images.{ImageText, image_read}
-use Rattle.jlr_steady.specs.Steady.{StillReads, IsSteady}
-use Rattle.jlr_steady.proofs.Fields.{number}
-use Rattle.jlr_steady.proofs.Sections.{entry, image}
+use Rattle.jlr_trace.specs.Steady.{StillReads, IsSteady}
+use Rattle.jlr_trace.proofs.Fields.{number}
+use Rattle.jlr_trace.proofs.Sections.{entry, image}
 use Rattle.jlr_trace.specs.declared.file.TraceFault.{TraceFault}
 use Rattle.jlr_trace.specs.declared.file.TraceFault.TheVariants.{Truncated, BadMark, BadVersion, BadEntry, NoMemory}
 use Rattle.jlr_trace.specs.Files.{◌>>>◌, in_entry, expected, version_read, mark_read}

@@ -4,3 +4,4 @@ pub mod Versions
 pub mod Writing
 pub mod Faults
 pub mod Streams
+pub mod Steady

@@ -6,6 +6,7 @@
 #![tactic(auto)]
 
 pub mod file;
+pub mod steady;
 pub mod streamed;
 pub mod window;
 pub mod writing;

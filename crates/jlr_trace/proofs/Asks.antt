@@ -17,10 +17,10 @@ use Rattle.jlr_trace_fields.specs.Items.{items_at}
 use Rattle.jlr_trace_fields.specs.Tables.{ref_kinds, faults}
 use Rattle.jlr_trace_entries.specs.Asks.{outcomes, modes, kind_read, layout_read, call_outcome_behind, call_outcome_read, field_read, tags}
 use Rattle.jlr_trace_entries.specs.Asks.{array_read, body_of, ask_read}
-use Rattle.jlr_steady.specs.Steady.{IsSteady}
-use Rattle.jlr_steady.proofs.Steps.{◌▸◌, made, never, then_read, either, one, two, three, four}
-use Rattle.jlr_steady.proofs.Fields.{byte, number, number_within, signed, byte_within, picked, picked_then, text, data_text}
-use Rattle.jlr_steady.proofs.Items.{items}
+use Rattle.jlr_trace.specs.Steady.{IsSteady}
+use Rattle.jlr_trace.proofs.Steps.{◌▸◌, made, never, then_read, either, one, two, three, four}
+use Rattle.jlr_trace.proofs.Fields.{byte, number, number_within, signed, byte_within, picked, picked_then, text, data_text}
+use Rattle.jlr_trace.proofs.Items.{items}
 
 kind : IsSteady kind_read
 unfolding kind_read

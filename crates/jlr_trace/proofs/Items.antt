@@ -7,9 +7,9 @@ use Rattle.std.proofs.lemmas.List.{length-append}
 use Rattle.jlr_trace_fields.specs.declared.fault.Fault.TheVariants.{Short}
 use Rattle.jlr_trace_fields.specs.Reading.{Reader, ◌>>=◌}
 use Rattle.jlr_trace_fields.specs.Items.{items_at, list_at, rising_items_at, rising_at}
-use Rattle.jlr_steady.specs.Steady.{StillReads, IsSteady}
-use Rattle.jlr_steady.proofs.Steps.{made, then_read, one}
-use Rattle.jlr_steady.proofs.Fields.{number}
+use Rattle.jlr_trace.specs.Steady.{StillReads, IsSteady}
+use Rattle.jlr_trace.proofs.Steps.{made, then_read, one}
+use Rattle.jlr_trace.proofs.Fields.{number}
 
 pub items : {A : Type 0} {read : Reader A} → IsSteady read → (count : ℕ) → IsSteady (items_at read count)
 unfolding items_at

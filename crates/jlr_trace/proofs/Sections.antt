@@ -9,13 +9,13 @@ use Rattle.jlr_trace_entries.specs.Choices.{itself, collected_read, collection_r
 use Rattle.jlr_trace_entries.specs.Entries.{made_entry, entry_read}
 use Rattle.jlr_trace_entries.specs.Images.{made_head, head_read, made_session, joined_read, session_read, waiting_read, records_read}
 use Rattle.jlr_trace_entries.specs.Images.{counts_read, made_image, image_behind, image_read}
-use Rattle.jlr_steady.specs.Steady.{IsSteady}
-use Rattle.jlr_steady.proofs.Steps.{made, then_read, either, one, two, three, four, five}
-use Rattle.jlr_steady.proofs.Fields.{byte, number, number_within, byte_within, flag, option}
-use Rattle.jlr_steady.proofs.Items.{items, list, rising}
-use Rattle.jlr_steady.proofs.Parts.{binding, failure, call, slot, job, resource, placed, held}
-use Rattle.jlr_steady.proofs.Asks.{ask}
-use Rattle.jlr_steady.proofs.Answers.{answer}
+use Rattle.jlr_trace.specs.Steady.{IsSteady}
+use Rattle.jlr_trace.proofs.Steps.{made, then_read, either, one, two, three, four, five}
+use Rattle.jlr_trace.proofs.Fields.{byte, number, number_within, byte_within, flag, option}
+use Rattle.jlr_trace.proofs.Items.{items, list, rising}
+use Rattle.jlr_trace.proofs.Parts.{binding, failure, call, slot, job, resource, placed, held}
+use Rattle.jlr_trace.proofs.Asks.{ask}
+use Rattle.jlr_trace.proofs.Answers.{answer}
 
 -- ---- Entries
 

@@ -15,10 +15,10 @@ use Rattle.jlr_trace_fields.specs.Objects.{value_behind, value_read, work_behind
 use Rattle.jlr_trace_fields.specs.Objects.{reference_read, queue_read, cleanable_read, guard_read, object_behind, object_read}
 use Rattle.jlr_trace_fields.specs.Records.{binding_read, failure_read, call_behind, call_read, slot_after, job_behind, job_after, resource_behind}
 use Rattle.jlr_trace_fields.specs.Records.{resource_after, placed_behind, placed_after, held_behind, held_after}
-use Rattle.jlr_steady.specs.Steady.{IsSteady}
-use Rattle.jlr_steady.proofs.Steps.{made, never, then_read, either, one, two, four}
-use Rattle.jlr_steady.proofs.Fields.{byte, number, number_within, signed, byte_within, flag, option, picked, text}
-use Rattle.jlr_steady.proofs.Items.{items, list}
+use Rattle.jlr_trace.specs.Steady.{IsSteady}
+use Rattle.jlr_trace.proofs.Steps.{made, never, then_read, either, one, two, four}
+use Rattle.jlr_trace.proofs.Fields.{byte, number, number_within, signed, byte_within, flag, option, picked, text}
+use Rattle.jlr_trace.proofs.Items.{items, list}
 
 value_after : (is_slot : Bool) → IsSteady (value_behind is_slot)
 value_after false = one signed Int

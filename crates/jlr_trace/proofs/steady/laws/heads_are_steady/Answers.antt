@@ -1,7 +1,7 @@
 use Rattle.std.specs.Int.{w64}
-use Rattle.jlr_steady.proofs.Fields.{number}
-use Rattle.jlr_steady.proofs.Sections.{image}
-use Rattle.jlr_steady.proofs.laws.heads_are_steady.Goals as goal
+use Rattle.jlr_trace.proofs.Fields.{number}
+use Rattle.jlr_trace.proofs.Sections.{image}
+use Rattle.jlr_trace.proofs.steady.laws.heads_are_steady.Goals as goal
 
 pub returns-clause-image : goal.returns-clause-image
 returns-clause-image c = image

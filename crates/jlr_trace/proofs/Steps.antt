@@ -3,7 +3,7 @@ use Rattle.std.proofs.Common.{ℕ, Bool, true, false, cond, List, ◌++◌, Resu
 use Rattle.jlr_trace_fields.specs.declared.fault.Fault.{Fault}
 use Rattle.jlr_trace_fields.specs.declared.fault.Fault.TheVariants.{Short, Range}
 use Rattle.jlr_trace_fields.specs.Reading.{Reader, ◌>>=◌, one_field, two_fields, three_fields, four_fields, five_fields}
-use Rattle.jlr_steady.specs.Steady.{StillReads, IsSteady}
+use Rattle.jlr_trace.specs.Steady.{StillReads, IsSteady}
 
 -- nothing is read, or nothing is in range
 pub made : {A : Type 0} (x : A) → IsSteady (λ bytes. Ok (x, bytes))

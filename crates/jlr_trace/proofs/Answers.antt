@@ -6,11 +6,11 @@ use Rattle.jlr_machine.specs.declared.ask.Answer.TheVariants.{Job, AlreadyDone, 
 use Rattle.jlr_trace_fields.specs.Reading.{is_name_byte}
 use Rattle.jlr_trace_fields.specs.Tables.{faults}
 use Rattle.jlr_trace_entries.specs.Answers.{refusals, handings, stat_read, tags, body_of, answer_read}
-use Rattle.jlr_steady.specs.Steady.{IsSteady}
-use Rattle.jlr_steady.proofs.Steps.{◌▸◌, made, one, two, five}
-use Rattle.jlr_steady.proofs.Fields.{byte, number, signed, byte_within, flag, picked, picked_then, text, data_text}
-use Rattle.jlr_steady.proofs.Items.{list}
-use Rattle.jlr_steady.proofs.Parts.{work, failure}
+use Rattle.jlr_trace.specs.Steady.{IsSteady}
+use Rattle.jlr_trace.proofs.Steps.{◌▸◌, made, one, two, five}
+use Rattle.jlr_trace.proofs.Fields.{byte, number, signed, byte_within, flag, picked, picked_then, text, data_text}
+use Rattle.jlr_trace.proofs.Items.{list}
+use Rattle.jlr_trace.proofs.Parts.{work, failure}
 
 stat : IsSteady stat_read
 unfolding stat_read

@@ -4,7 +4,7 @@ ghost use Rattle.jlr_trace_fields.specs.Reading.{number_at};
 ghost use Rattle.jlr_trace_fields.specs.declared.version.Version.{Version as VersionOf};
 ghost use Rattle.jlr_trace_entries.specs.Entries.{entry_read};
 ghost use Rattle.jlr_trace_entries.specs.Images.{image_read};
-ghost use Rattle.jlr_steady.specs.Steady.{IsSteady};
+ghost use Rattle.jlr_trace.specs.Steady.{IsSteady};
 
 /// The reader of an entry.
 pub fn entries_are_steady()
