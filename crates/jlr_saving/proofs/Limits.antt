@@ -8,7 +8,7 @@ use Rattle.jlr_types.specs.Ranges.{is_within}
 use Rattle.jlr_machine.specs.declared.machine.Machine.{Machine}
 use Rattle.jlr_laws.proofs.Frames.{no_some}
 use Rattle.jlr_book.specs.Histories.{HasLimits}
-use Rattle.jlr_ranges.specs.Ranges.{AreLimits}
+use Rattle.jlr_trace.specs.Ranges.{AreLimits}
 
 passes : (b : Bool) (rest : Option LimitFault) (fault : LimitFault) → cond b rest (Some fault) ≡ None → (b ≡ true) × (rest ≡ None)
 passes true rest fault e = (refl, e)

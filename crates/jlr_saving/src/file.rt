@@ -3,7 +3,7 @@ ghost use Rattle.std.specs.Prelude.{IfOk};
 ghost use Rattle.jlr_saving.specs.Saving.{IsSaved};
 
 use jlr_book::book::Book;
-use jlr_ranges::fits::run_has_spelling;
+use jlr_trace::ranges::fits::run_has_spelling;
 use jlr_trace::writing::write_history;
 use std::alloc::{AllocError, Global};
 

@@ -15,3 +15,10 @@ pub mod Parts
 pub mod Asks
 pub mod Answers
 pub mod Sections
+pub mod ListLengths
+pub mod Workers
+pub mod Tables
+pub mod Objects
+pub mod Machines
+pub mod Entries
+pub mod Fitting

@@ -5,3 +5,4 @@ pub mod Writing
 pub mod Faults
 pub mod Streams
 pub mod Steady
+pub mod Ranges

@@ -6,6 +6,7 @@
 #![tactic(auto)]
 
 pub mod file;
+pub mod ranges;
 pub mod steady;
 pub mod streamed;
 pub mod window;

@@ -5,7 +5,7 @@ use Rattle.jlr_machine.specs.WellFormed.{IsImage}
 use Rattle.jlr_machine.specs.Run.{Run}
 use Rattle.jlr_trace.specs.declared.file.TraceFile.{TraceFile}
 use Rattle.jlr_trace.specs.Files.{HasSpelling, file_text, history_of, spelled_file}
-use Rattle.jlr_ranges.specs.Ranges.{AreLimits}
+use Rattle.jlr_trace.specs.Ranges.{AreLimits}
 use Rattle.jlr_saving.specs.Saving.{IsSaved, file_of}
 use Rattle.jlr_saving.proofs.Limits.{are_limits}
 use Rattle.jlr_saving.proofs.file.trace_bytes_of.Goals as goal

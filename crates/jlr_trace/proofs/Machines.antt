@@ -25,11 +25,11 @@ use Rattle.jlr_trace.specs.declared.file.TraceFile.{TraceFile}
 use Rattle.jlr_trace.specs.Files.{image_of}
 use Rattle.jlr_machine.specs.declared.entry.Entry.{Entry}
 use Rattle.jlr_trace_entries.specs.Images.{listed_from, placed, held, session_text, SessionFits, ImageFits, HasShape, HasPlaces, image_text}
-use Rattle.jlr_ranges.specs.Ranges.{SeatRange, SessionRange, MachineRange, AreLimits}
-use Rattle.jlr_ranges.proofs.Counting.{short, rises}
-use Rattle.jlr_ranges.proofs.Workers.{few_jobs, few_resources}
-use Rattle.jlr_ranges.proofs.Tables.{table_fits, handles_fit}
-use Rattle.jlr_ranges.proofs.Objects.{slot_fits, object_within, all_objects_fit, one_on, none_on, from_none}
+use Rattle.jlr_trace.specs.Ranges.{SeatRange, SessionRange, MachineRange, AreLimits}
+use Rattle.jlr_trace.proofs.ListLengths.{short, rises}
+use Rattle.jlr_trace.proofs.Workers.{few_jobs, few_resources}
+use Rattle.jlr_trace.proofs.Tables.{table_fits, handles_fit}
+use Rattle.jlr_trace.proofs.Objects.{slot_fits, object_within, all_objects_fit, one_on, none_on, from_none}
 
 no_some : (s : ℕ) (o : Option ℕ) → o ≡ None → o ≡ Some s → s < 65536
 no_some s o e h = absurd cc

@@ -2,7 +2,7 @@ use Rattle.std.proofs.Common.{subst}
 use Rattle.std.specs.List.{All}
 use Rattle.std.proofs.lemmas.List.Elements.{All-more, recursion_from_All}
 use Rattle.jlr_trace_entries.proofs.WritingLaws.{take_whole}
-use Rattle.jlr_ranges.proofs.list.all_in_range.Goals as goal
+use Rattle.jlr_trace.proofs.ranges.list.all_in_range.Goals as goal
 
 pub loop-item-preserved : goal.loop-item-preserved
 loop-item-preserved g c =

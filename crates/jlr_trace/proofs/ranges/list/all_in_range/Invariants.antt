@@ -1,6 +1,6 @@
 use Rattle.std.proofs.Common.{take}
 use Rattle.std.specs.List.{All}
-use Rattle.jlr_ranges.proofs.list.all_in_range.Given as goal
+use Rattle.jlr_trace.proofs.ranges.list.all_in_range.Given as goal
 
 -- the items so far
 abbrev pub invariant-loop-item : goal.invariant-loop-item

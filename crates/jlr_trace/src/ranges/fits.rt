@@ -4,10 +4,10 @@ ghost use Rattle.jlr_machine.specs.declared.machine.Machine.{Machine as MachineO
 ghost use Rattle.jlr_machine.specs.WellFormed.{IsImage};
 ghost use Rattle.jlr_machine.specs.Run.{Run};
 ghost use Rattle.jlr_trace.specs.Files.{HasSpelling, history_of};
-ghost use Rattle.jlr_ranges.specs.Ranges.{AreLimits};
+ghost use Rattle.jlr_trace.specs.Ranges.{AreLimits};
 
-use crate::list::all_in_range;
-use crate::machine::machine_in_range;
+use crate::ranges::list::all_in_range;
+use crate::ranges::machine::machine_in_range;
 use jlr_machine::entry::Entry;
 use jlr_machine::machine::Machine;
 

@@ -1,10 +1,10 @@
 //! Machines.
 ghost use Rattle.jlr_trace_fields.specs.Records.{CallFits, NameFits};
 ghost use Rattle.jlr_trace_entries.specs.Images.{counts_of, CountsFit};
-ghost use Rattle.jlr_ranges.specs.Ranges.{MachineRange, SessionRange};
+ghost use Rattle.jlr_trace.specs.Ranges.{MachineRange, SessionRange};
 
-use crate::list::{Ranged, all_in_range};
-use crate::object::work_in_range;
+use crate::ranges::list::{Ranged, all_in_range};
+use crate::ranges::object::work_in_range;
 use jlr_machine::machine::{Binding, Call, Failure, Job, Machine, Resource, Session};
 use jlr_machine::text::Name;
 
@@ -87,7 +87,7 @@ fn session_in_range(session: &Session)
 }
 
 impl Ranged for Option<Session> {
-    ghost use Rattle.jlr_ranges.specs.Ranges.{SeatRange};
+    ghost use Rattle.jlr_trace.specs.Ranges.{SeatRange};
 
     ghost Range = { SeatRange };
 

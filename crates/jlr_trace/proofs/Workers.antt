@@ -20,7 +20,7 @@ use Rattle.jlr_machine.specs.WellFormed.{IsWellFormed, IsJob, IsUnspent, HasReso
 use Rattle.jlr_laws.proofs.Keyed.{all_found, key_found}
 use Rattle.jlr_laws.proofs.Frames.{place_within, some_same}
 use Rattle.jlr_trace_fields.specs.Records.{JobFits}
-use Rattle.jlr_ranges.proofs.Counting.{rising_distinct, found_by, counted_two, at_most}
+use Rattle.jlr_trace.proofs.ListLengths.{rising_distinct, found_by, counted_two, at_most}
 
 abbrev action_of : JobOf → ℕ
 action_of job = job.action

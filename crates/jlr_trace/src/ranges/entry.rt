@@ -4,10 +4,10 @@ ghost use Rattle.jlr_trace_fields.specs.declared.version.Version.TheVariants.{Tw
 ghost use Rattle.jlr_trace_fields.specs.Spelling.{IsBytes, IsText};
 ghost use Rattle.jlr_trace_entries.specs.Asks.{AskFits, CallOutcomeFits};
 ghost use Rattle.jlr_trace_entries.specs.Answers.{StatFits};
-ghost use Rattle.jlr_ranges.specs.Ranges.{AnswerRange, ChoiceRange, CollectedRange};
+ghost use Rattle.jlr_trace.specs.Ranges.{AnswerRange, ChoiceRange, CollectedRange};
 
-use crate::list::{Ranged, all_in_range};
-use crate::object::work_in_range;
+use crate::ranges::list::{Ranged, all_in_range};
+use crate::ranges::object::work_in_range;
 use jlr_machine::ask::{Answer, Ask, CallOutcome, Stat};
 use jlr_machine::data::Data;
 use jlr_machine::entry::{Chosen, Collected, Entry};
@@ -272,7 +272,7 @@ fn choice_in_range(choice: &Chosen)
 }
 
 impl Ranged for Entry {
-    ghost use Rattle.jlr_ranges.specs.Ranges.{EntryRange};
+    ghost use Rattle.jlr_trace.specs.Ranges.{EntryRange};
 
     ghost Range = { EntryRange };
 

@@ -23,9 +23,9 @@ use Rattle.jlr_laws.proofs.Sets.{in_front, in_rest}
 use Rattle.jlr_trace_fields.specs.declared.version.Version.TheVariants.{Two}
 use Rattle.jlr_trace_fields.specs.Spelling.{SlotFits}
 use Rattle.jlr_trace_fields.specs.Objects.{ValueFits, ObjectFits}
-use Rattle.jlr_ranges.specs.Ranges.{ValueRange, ObjectRange, PlaceRange}
-use Rattle.jlr_ranges.proofs.Counting.{short}
-use Rattle.jlr_ranges.proofs.Tables.{PlaceFits}
+use Rattle.jlr_trace.specs.Ranges.{ValueRange, ObjectRange, PlaceRange}
+use Rattle.jlr_trace.proofs.ListLengths.{short}
+use Rattle.jlr_trace.proofs.Tables.{PlaceFits}
 
 -- ---- Slots
 

@@ -35,9 +35,9 @@ use Rattle.jlr_trace_fields.specs.Items.{Rises}
 use Rattle.jlr_trace_entries.specs.Answers.{AnswerFits}
 use Rattle.jlr_trace_entries.specs.Choices.{SlotIs, itself, CollectedFits, CollectionFits, ChoiceFits}
 use Rattle.jlr_trace_entries.specs.Entries.{EntryFits}
-use Rattle.jlr_ranges.specs.Ranges.{AnswerRange, CollectedRange, ChoiceRange, EntryRange}
-use Rattle.jlr_ranges.proofs.Counting.{short, rising_distinct, rises}
-use Rattle.jlr_ranges.proofs.Objects.{object_within}
+use Rattle.jlr_trace.specs.Ranges.{AnswerRange, CollectedRange, ChoiceRange, EntryRange}
+use Rattle.jlr_trace.proofs.ListLengths.{short, rising_distinct, rises}
+use Rattle.jlr_trace.proofs.Objects.{object_within}
 
 -- ---- What a collection keeps
 

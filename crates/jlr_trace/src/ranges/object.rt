@@ -1,14 +1,14 @@
 //! Objects.
 ghost use Rattle.std.specs.Prelude.{◌<◌, ◌^◌};
 ghost use Rattle.jlr_trace_fields.specs.Objects.{WorkFits, GuardFits};
-ghost use Rattle.jlr_ranges.specs.Ranges.{ContentsRange, ObjectRange};
+ghost use Rattle.jlr_trace.specs.Ranges.{ContentsRange, ObjectRange};
 
-use crate::list::{Ranged, all_in_range};
+use crate::ranges::list::{Ranged, all_in_range};
 use jlr_machine::object::{Cleanable, Contents, Guard, Object};
 use jlr_types::{FieldValue, Work};
 
 impl Ranged for FieldValue {
-    ghost use Rattle.jlr_ranges.specs.Ranges.{ValueRange};
+    ghost use Rattle.jlr_trace.specs.Ranges.{ValueRange};
 
     ghost Range = { ValueRange };
 
@@ -73,7 +73,7 @@ fn object_in_range(object: &Object)
 }
 
 impl Ranged for Option<Object> {
-    ghost use Rattle.jlr_ranges.specs.Ranges.{PlaceRange};
+    ghost use Rattle.jlr_trace.specs.Ranges.{PlaceRange};
 
     ghost Range = { PlaceRange };
 

@@ -10,7 +10,7 @@ use Rattle.jlr_trace_fields.specs.Objects.{ObjectFits}
 use Rattle.jlr_trace_fields.specs.Records.{PlacedFits, HeldFits}
 use Rattle.jlr_trace_entries.specs.Images.{listed_from, placed, held}
 use Rattle.jlr_trace_entries.proofs.WritingLaws.{counted, occupied_within}
-use Rattle.jlr_ranges.specs.Ranges.{HandleRange}
+use Rattle.jlr_trace.specs.Ranges.{HandleRange}
 
 abbrev Before : Option ℕ → ℕ → Type 0
 Before None n = Unit {0}

@@ -35,7 +35,7 @@ impl Ranged for Slot {
 }
 
 impl Ranged for u32 {
-    ghost use Rattle.jlr_ranges.specs.Ranges.{NoteIs};
+    ghost use Rattle.jlr_trace.specs.Ranges.{NoteIs};
 
     ghost Range = { NoteIs };
 
@@ -45,7 +45,7 @@ impl Ranged for u32 {
 }
 
 impl Ranged for Option<Slot> {
-    ghost use Rattle.jlr_ranges.specs.Ranges.{HandleRange};
+    ghost use Rattle.jlr_trace.specs.Ranges.{HandleRange};
 
     ghost Range = { HandleRange };
 

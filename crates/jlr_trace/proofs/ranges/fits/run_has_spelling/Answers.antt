@@ -1,5 +1,5 @@
-use Rattle.jlr_ranges.proofs.Fitting.{has_spelling}
-use Rattle.jlr_ranges.proofs.fits.run_has_spelling.Goals as goal
+use Rattle.jlr_trace.proofs.Fitting.{has_spelling}
+use Rattle.jlr_trace.proofs.ranges.fits.run_has_spelling.Goals as goal
 
 pub returns : goal.returns
 returns c =
