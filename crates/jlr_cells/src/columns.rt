@@ -3,7 +3,7 @@ ghost use Rattle.std.specs.Prelude.{◌≡◌, ℕ, ◌++◌, ◌<◌, [], IfOk,
 ghost use Rattle.jlr_cells.specs.Links.{linked, linked_in, no_links};
 
 use crate::links::Links;
-use jlr_column::Column;
+use jlr_links::column::Column;
 use jlr_sets::cell_set::CellSet;
 use jlr_types::Slot;
 use std::alloc::{AllocError, Global};

@@ -6,7 +6,7 @@ ghost use Rattle.jlr_cells.specs.Links.{four_nulls};
 ghost use Rattle.jlr_cells.specs.Nulls.{link_of};
 
 use crate::elements::Elements;
-use jlr_column::Blank;
+use jlr_links::column::Blank;
 use jlr_types::{FieldValue, Slot};
 use std::marker::Model;
 

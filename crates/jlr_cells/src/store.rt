@@ -26,7 +26,7 @@ use crate::elements::Elements;
 use crate::kinds::Kinds;
 use crate::links::{Links, Visited, target_of};
 use crate::shape::{Kind, Shape};
-use jlr_column::Column;
+use jlr_links::column::Column;
 use jlr_links::Links as Lists;
 use jlr_machine::object::{CleanState, Cleanable, Guard, Object, RefState, Reference};
 use jlr_machine::table::Table;

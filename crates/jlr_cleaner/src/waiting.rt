@@ -2,7 +2,7 @@
 ghost use Rattle.std.specs.Prelude.{◌≡◌, ◌<◌, IfOk, None, length, replicate};
 ghost use Rattle.jlr_machine.specs.Objects.{at, empty_at, set_at};
 
-use jlr_column::Column;
+use jlr_links::column::Column;
 use jlr_types::{ActionNo, Slot};
 use std::alloc::{AllocError, Global};
 use std::marker::Model;

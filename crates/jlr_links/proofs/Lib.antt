@@ -4,3 +4,4 @@ pub mod Appending
 pub mod Leaving
 pub mod Standing
 pub mod Places
+pub mod Writing

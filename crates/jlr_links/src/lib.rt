@@ -4,6 +4,7 @@
 //! No call but `Links::new` and `image` takes memory.
 #![tactic(auto)]
 
+pub mod column;
 mod links;
 
 pub use links::Links;

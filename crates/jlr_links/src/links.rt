@@ -5,7 +5,7 @@ ghost use Rattle.jlr_machine.specs.Objects.{◌∈◌};
 ghost use Rattle.jlr_links.specs.Lists.{list_at};
 ghost use Rattle.jlr_links.specs.Walks.{AreLinked, ends_at, lists_in, members};
 
-use jlr_column::Column;
+use crate::column::Column;
 use jlr_machine::items::Items;
 use jlr_types::Slot;
 use std::alloc::{AllocError, Global};

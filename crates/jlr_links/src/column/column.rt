@@ -1,10 +1,10 @@
 //! A column of values.
 ghost use Rattle.std.specs.Prelude.{◌≡◌, ◌<◌, ◌≤◌, IfOk, length, option_copied, replicate, slice_index_or, unwrap_or};
 ghost use Rattle.std.specs.Prelude.{vec_capacity};
-ghost use Rattle.jlr_column.specs.Columns.{IsLonger};
+ghost use Rattle.jlr_links.specs.Columns.{IsLonger};
 ghost use Rattle.std.specs.Borrow.{sem};
 
-use crate::blank::Blank;
+use crate::column::blank::Blank;
 use std::alloc::{AllocError, Global};
 use std::marker::Model;
 use std::ops::{Index, IndexMut};
@@ -24,7 +24,7 @@ pub struct Column<T: Blank> {
 
 impl<T: Blank> Model for Column<T> {
     ghost use Rattle.std.specs.Prelude.{List};
-    ghost use Rattle.jlr_column.specs.Columns.{whole, IsColumn};
+    ghost use Rattle.jlr_links.specs.Columns.{whole, IsColumn};
 
     ghost Value = { List T };
 
@@ -84,7 +84,7 @@ impl<T: Blank + Drop> Index<usize> for Column<T> {
 }
 
 impl<T: Blank + Drop> IndexMut<usize> for Column<T> {
-    ghost use Rattle.jlr_column.specs.Lends.{lends_place};
+    ghost use Rattle.jlr_links.specs.Lends.{lends_place};
 
     #[inline(always)]
     fn index_mut(&mut self, index: usize) -> &mut T

@@ -2,7 +2,7 @@
 use Rattle.std.proofs.Common.{◌≡◌, ℕ, suc, ◌<◌, ◌≤◌, ◌-◌, ◌+◌, ◌++◌, ◌∷◌, ◌∙◌, [], List, length, replicate, sym, ap, arith}
 use Rattle.std.proofs.Common.{slice_set, slice_index_or}
 use Rattle.std.proofs.lemmas.List.{set-append_left, length-set, append_assoc, length-append, length-replicate, get_or_append_left}
-use Rattle.jlr_column.specs.Columns.{whole, IsLonger}
+use Rattle.jlr_links.specs.Columns.{whole, IsLonger}
 
 module _ {T : Type 0} where
   pub whole_set :

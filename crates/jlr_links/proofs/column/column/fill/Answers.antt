@@ -1,7 +1,7 @@
 use Rattle.std.proofs.Common.{◌∙◌, ◌++◌, ◌∷◌, [], ap, sym, subst, arith}
-use Rattle.jlr_column.specs.Columns.{IsLonger}
-use Rattle.jlr_column.proofs.Writing.{longer}
-use Rattle.jlr_column.proofs.column.fill.Goals as goal
+use Rattle.jlr_links.specs.Columns.{IsLonger}
+use Rattle.jlr_links.proofs.Writing.{longer}
+use Rattle.jlr_links.proofs.column.column.fill.Goals as goal
 
 pub loop-front-preserved : goal.loop-front-preserved
 loop-front-preserved g c =

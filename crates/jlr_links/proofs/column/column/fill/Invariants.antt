@@ -1,6 +1,6 @@
 use Rattle.std.proofs.Common.{◌≡◌, ◌≤◌, ◌-◌, vec_len, vec_capacity}
-use Rattle.jlr_column.specs.Columns.{IsLonger}
-use Rattle.jlr_column.proofs.column.fill.Given as goal
+use Rattle.jlr_links.specs.Columns.{IsLonger}
+use Rattle.jlr_links.proofs.column.column.fill.Given as goal
 
 -- the column holds what it held
 abbrev pub invariant-loop-front : goal.invariant-loop-front

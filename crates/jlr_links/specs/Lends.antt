@@ -1,8 +1,8 @@
 -- What a column ends as, where a `&mut` to one of its values is returned.
 use Rattle.std.specs.Prelude.{ℕ, List, slice_set}
 use Rattle.std.specs.Borrow.{Lends, Fml, RattleType, MutBor}
-use Rattle.jlr_column.specs.declared.blank.Blank.{Ghosts}
-use Rattle.jlr_column.specs.contracts.column.Column.{the_row}
+use Rattle.jlr_links.specs.declared.column.blank.Blank.{Ghosts}
+use Rattle.jlr_links.specs.contracts.column.column.Column.{the_row}
 
 module _ (T : RattleType) (blank : Ghosts T.Denot) (c : MutBor (List T.Denot)) (place : ℕ) where
   -- once the borrow r ends, the place has the last value written through r

@@ -1,6 +1,6 @@
 use Rattle.std.proofs.Common.{◌<◌, length, refl, ap, sym, ◌∙◌, subst}
-use Rattle.jlr_column.proofs.Writing.{long, stood, written}
-use Rattle.jlr_column.proofs.column.ColumnIndexMutUsize.index_mut.Goals as goal
+use Rattle.jlr_links.proofs.Writing.{long, stood, written}
+use Rattle.jlr_links.proofs.column.column.ColumnIndexMutUsize.index_mut.Goals as goal
 
 pub reach-requires-clause-place : goal.reach-requires-clause-place
 reach-requires-clause-place g c =

@@ -4,7 +4,6 @@
 //! Memory that was never written costs nothing, since the system gives it at the first write; so a column is filled
 //! only up to the highest place that was lent to be written. Contracts see the whole list. No call but `Column::new`
 //! takes memory.
-#![tactic(auto)]
 
 mod blank;
 mod column;

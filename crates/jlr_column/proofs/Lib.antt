@@ -1,2 +1,0 @@
--- Columns that are written to.
-pub mod Writing
