@@ -20,7 +20,7 @@ use jlr_links::Links;
 use jlr_machine::object::{Object, Reference};
 use jlr_machine::table::Table;
 use jlr_marks::Marks;
-use jlr_objects::Objects;
+use jlr_cells::objects::Objects;
 use jlr_roots::{Names, Roots};
 use jlr_types::{FieldValue, Limits, Slot};
 use std::alloc::{AllocError, Global};

@@ -9,3 +9,5 @@ pub mod ByKind
 pub mod Queues
 pub mod Showing
 pub mod Images
+mod Shown
+mod Using

@@ -7,3 +7,5 @@ pub mod Visits
 pub mod Keeping
 pub mod Kinds
 pub mod Showing
+pub mod Occupying
+pub mod Holding

@@ -24,6 +24,7 @@ mod elements;
 mod fields;
 mod kinds;
 mod links;
+pub mod objects;
 mod shape;
 mod store;
 

@@ -1,5 +1,5 @@
 use Rattle.std.proofs.Common.{ap, arith, length, sym}
-use Rattle.jlr_objects.specs.Holding.{Holding}
+use Rattle.jlr_cells.specs.Holding.{Holding}
 use Rattle.jlr_links.specs.Lists.{list_at}
 use Rattle.jlr_barrier.proofs.Ending.{new_fits}
 use Rattle.jlr_barrier.proofs.heap.Heap.new.Goals as goal

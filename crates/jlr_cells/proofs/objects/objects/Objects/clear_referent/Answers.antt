@@ -1,0 +1,23 @@
+use Rattle.std.proofs.Common.{ap}
+use Rattle.jlr_cells.specs.Holding.{Holding}
+use Rattle.jlr_machine.specs.Objects.{some_and, with_reference}
+use Rattle.jlr_machine.specs.Refusals.{is_reference}
+use Rattle.jlr_machine.specs.Calls.{unreferred}
+use Rattle.jlr_cells.proofs.Slots.{object_of_reference}
+use Rattle.jlr_cells.proofs.Shown.{changed_are, changed_view, holds_below, reference_gives_none}
+use Rattle.jlr_cells.proofs.objects.objects.Objects.clear_referent.Goals as goal
+
+pub clear_referent-requires : goal.clear_referent-requires
+clear_referent-requires c = holds_below c.self.inside.store c.self.inside.occupancy.places c.self.inside.occupancy.used c.self.inside.listed
+    c.self.invariant c.args.self.now.objects (ap (λ (h : Holding). h.objects) c.self.view_is) (some_and is_reference) c.args.slot
+    object_of_reference c.requires
+
+pub invariant_of-self : goal.invariant_of-self
+invariant_of-self c = changed_are c.self.inside.store c.self.inside.occupancy.places c.self.inside.occupancy.used c.self.inside.listed
+    c.self.invariant c.args.self.now.objects (ap (λ (h : Holding). h.objects) c.self.view_is) c.args.slot (with_reference unreferred)
+    c.clear_referent.new.self (reference_gives_none unreferred) c.clear_referent.ensures
+
+pub returns-clause-objects : goal.returns-clause-objects
+returns-clause-objects c = changed_view c.self.inside.store c.self.inside.occupancy.places c.self.inside.occupancy.used c.self.inside.listed
+    c.self.invariant c.args.self.now.objects (ap (λ (h : Holding). h.objects) c.self.view_is) c.args.slot (with_reference unreferred)
+    c.clear_referent.new.self (object_of_reference _ c.requires) c.clear_referent.ensures

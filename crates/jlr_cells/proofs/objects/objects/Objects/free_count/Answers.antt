@@ -1,0 +1,16 @@
+use Rattle.std.proofs.Common.{ap, arith}
+use Rattle.jlr_cells.specs.Holding.{Holding}
+use Rattle.jlr_cells.proofs.Shown.{counted, long}
+use Rattle.jlr_cells.proofs.objects.objects.Objects.free_count.Goals as goal
+
+pub returns : goal.returns
+returns c = omega (
+  arith,
+  c.free_count.ensures,
+  c.self.invariant.places,
+  long c.self.inside.store c.self.inside.occupancy.places c.self.inside.occupancy.used c.self.inside.listed c.self.invariant
+      c.args.self.now.objects (ap (λ (h : Holding). h.objects) c.self.view_is),
+  counted c.self.inside.store c.self.inside.occupancy.places c.self.inside.occupancy.used c.self.inside.listed c.self.invariant
+      c.args.self.now.objects (ap (λ (h : Holding). h.objects) c.self.view_is),
+  ap (λ (h : Holding). h.condemned) c.self.view_is,
+)

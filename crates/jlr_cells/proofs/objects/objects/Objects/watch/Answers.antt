@@ -1,0 +1,23 @@
+use Rattle.std.proofs.Common.{ap}
+use Rattle.jlr_cells.specs.Holding.{Holding}
+use Rattle.jlr_machine.specs.Objects.{some_and, with_cleanable}
+use Rattle.jlr_machine.specs.Refusals.{is_cleanable}
+use Rattle.jlr_cells.specs.Contents.{watching}
+use Rattle.jlr_cells.proofs.Slots.{object_of_cleanable}
+use Rattle.jlr_cells.proofs.Shown.{changed_are, changed_view, holds_below, cleanable_gives_none}
+use Rattle.jlr_cells.proofs.objects.objects.Objects.watch.Goals as goal
+
+pub watch-requires : goal.watch-requires
+watch-requires c = holds_below c.self.inside.store c.self.inside.occupancy.places c.self.inside.occupancy.used c.self.inside.listed
+    c.self.invariant c.args.self.now.objects (ap (λ (h : Holding). h.objects) c.self.view_is) (some_and is_cleanable) c.args.slot
+    object_of_cleanable c.requires
+
+pub invariant_of-self : goal.invariant_of-self
+invariant_of-self c = changed_are c.self.inside.store c.self.inside.occupancy.places c.self.inside.occupancy.used c.self.inside.listed
+    c.self.invariant c.args.self.now.objects (ap (λ (h : Holding). h.objects) c.self.view_is) c.args.slot
+    (with_cleanable (watching c.args.referent)) c.watch.new.self (cleanable_gives_none (watching c.args.referent)) c.watch.ensures
+
+pub returns-clause-objects : goal.returns-clause-objects
+returns-clause-objects c = changed_view c.self.inside.store c.self.inside.occupancy.places c.self.inside.occupancy.used c.self.inside.listed
+    c.self.invariant c.args.self.now.objects (ap (λ (h : Holding). h.objects) c.self.view_is) c.args.slot
+    (with_cleanable (watching c.args.referent)) c.watch.new.self (object_of_cleanable _ c.requires) c.watch.ensures

@@ -1,3 +1,0 @@
--- Which cells are occupied, and what callers see of them.
-pub mod Occupying
-pub mod Holding
