@@ -5,3 +5,8 @@ pub mod Recorded
 pub mod Asked
 pub mod Following
 pub mod Histories
+pub mod HandingOver
+pub mod TakingUp
+pub mod Turns
+pub use Rattle.jlr_book.proofs.Cores
+pub use Rattle.jlr_book.proofs.Entering

@@ -24,11 +24,11 @@ use Rattle.jlr_event.specs.declared.event.Event.TheVariants as event
 use Rattle.jlr_event.specs.declared.event.Reply.{Reply}
 use Rattle.jlr_event.specs.declared.event.Reply.TheVariants.{Answered, Marked}
 use Rattle.jlr_event.specs.Events.{ask_of, answer_in}
-use Rattle.jlr_solo.specs.Cores.{Kept, StandsIn, Enters, entry_of, IsStep}
-use Rattle.jlr_solo.specs.Histories.{History, seated}
-use Rattle.jlr_solo.specs.Rules.{AsksBy, BookSteps, Cuts, Declines, EndsBy, GivesUp, Readies, StepsBy}
-use Rattle.jlr_solo.specs.Rules as rules
-use Rattle.jlr_solo.proofs.Entering.{abandon_answers, end_chooses}
+use Rattle.jlr_prog.specs.Cores.{Kept, StandsIn, Enters, entry_of, IsStep}
+use Rattle.jlr_prog.specs.Histories.{History, seated}
+use Rattle.jlr_prog.specs.Rules.{AsksBy, BookSteps, Cuts, Declines, EndsBy, GivesUp, Readies, StepsBy}
+use Rattle.jlr_prog.specs.Rules as rules
+use Rattle.jlr_prog.proofs.Entering.{abandon_answers, end_chooses}
 use Rattle.jlr_prog.specs.Wholes.{Whole, WholeSteps, given_up}
 
 -- ---- Lists and bits

@@ -7,7 +7,7 @@ use Rattle.jlr_event.specs.declared.event.Event.TheVariants.{Ask as Asks}
 use Rattle.jlr_event.specs.Events.{outcome_of}
 use Rattle.jlr_event.specs.declared.event.Reply.{Reply}
 use Rattle.jlr_device.specs.Handling.{Handling}
-use Rattle.jlr_solo.specs.Settling.{Helpers, Turns, TurnsToTheEnd, TurnsUntilRefused, HandsOver, DoesJob, Works, Cleans, Settles}
+use Rattle.jlr_prog.specs.Settling.{Helpers, Turns, TurnsToTheEnd, TurnsUntilRefused, HandsOver, DoesJob, Works, Cleans, Settles}
 
 abbrev pub IsTurnAlong : {H X : Type 0} → (H → H → Type 0) → (X → X → Type 0) → (H → X → Type 0) → Type 0
 IsTurnAlong {H} {X} turn other S = (h k : H) (x : X) → turn h k → S h x → (y : X) × other x y × S k y

@@ -2,3 +2,9 @@
 pub mod Wholes
 pub mod Histories
 pub mod Books
+pub mod Settling
+pub mod Solos
+pub mod OneTurn
+pub use Rattle.jlr_book.specs.Cores
+pub use Rattle.jlr_book.specs.Histories
+pub use Rattle.jlr_book.specs.Rules

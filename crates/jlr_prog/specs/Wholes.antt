@@ -7,12 +7,12 @@ use Rattle.jlr_machine.specs.declared.entry.Entry.{Entry}
 use Rattle.jlr_machine.specs.Run.{no_choice}
 use Rattle.jlr_event.specs.declared.event.Event.{Event}
 use Rattle.jlr_event.specs.declared.event.Reply.{Reply}
-use Rattle.jlr_solo.specs.Histories.{History}
+use Rattle.jlr_prog.specs.Histories.{History}
 use Rattle.jlr_device.specs.Handling.{Handling}
 use Rattle.jlr_session.specs.Asks.{Asking}
-use Rattle.jlr_solo.specs.Rules.{BookSteps}
-use Rattle.jlr_solo.specs.Settling.{Helpers, Settles}
-use Rattle.jlr_solo.specs.Solos.{cleaner_seat, handler_seat}
+use Rattle.jlr_prog.specs.Rules.{BookSteps}
+use Rattle.jlr_prog.specs.Settling.{Helpers, Settles}
+use Rattle.jlr_prog.specs.Solos.{cleaner_seat, handler_seat}
 
 pub record Whole (R : Type 0) : Type 0 where
   pub book : History R

@@ -5,5 +5,6 @@
 #![tactic(auto)]
 
 pub mod run;
+pub mod solo;
 
-pub use jlr_solo::Book;
+pub use crate::solo::Book;

@@ -1,0 +1,11 @@
+use Rattle.std.proofs.Common.{List, length}
+use Rattle.jlr_book.specs.Histories.{History}
+use Rattle.jlr_prog.specs.Settling.{HandsOver, Turns}
+use Rattle.jlr_prog.specs.Solos.{at_book}
+use Rattle.jlr_prog.proofs.solo.solo.Solo.hand_all_over.Given as goal
+
+abbrev pub invariant-loop-self : goal.invariant-loop-self
+invariant-loop-self g l = (states : List (History g.row.R.Denot)) × Turns (HandsOver (at_book {R = g.row.R.Denot})) states l.fn.self l.self
+
+abbrev pub decreases-loop-self : goal.decreases-loop-self
+decreases-loop-self g l = length l.self.core.machine.pending
