@@ -9,3 +9,5 @@ pub mod Making
 pub mod Keeping
 pub mod Writing
 pub mod Limits
+pub mod Led
+pub mod ImageKeeping

@@ -21,7 +21,7 @@ use crate::room::{AnswerRoom, EntryRoom};
 use jlr_cleaner::Job;
 use jlr_core::engine::Core;
 use jlr_event::event::{Event, Reply, ended};
-use jlr_image::image::Image;
+use crate::image::image::Image;
 use jlr_machine::ask::{Answer, Ask, Handed, Outcome};
 use jlr_machine::choice::Choice;
 use jlr_machine::data::{CopyRoom, Data};

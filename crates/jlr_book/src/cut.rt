@@ -9,7 +9,7 @@ ghost use Rattle.jlr_book.specs.Writing.{Stands};
 
 use jlr_core::engine::Core;
 use jlr_event::event::{Event, Reply};
-use jlr_image::image::Image;
+use crate::image::image::Image;
 use jlr_machine::ask::{Answer, Ask};
 use jlr_machine::choice::Choice;
 use jlr_machine::entry::Entry;

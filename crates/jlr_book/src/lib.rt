@@ -9,4 +9,5 @@ pub mod book;
 mod cut;
 mod entry;
 pub mod event;
+pub mod image;
 pub mod room;

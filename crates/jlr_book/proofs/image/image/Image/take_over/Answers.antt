@@ -1,10 +1,10 @@
 use Rattle.std.proofs.Common.{◌≡◌, [], drop, option_map, arith, ◌∙◌, ap}
 use Rattle.std.proofs.Math.ListN.{drop_of_length-le}
 use Rattle.jlr_machine.specs.declared.machine.Machine.{Machine}
-use Rattle.jlr_image.specs.Keeping.{image_from}
-use Rattle.jlr_image.specs.Led.{closed}
-use Rattle.jlr_image.proofs.Keeping.{takes_over}
-use Rattle.jlr_image.proofs.image.Image.take_over.Goals as goal
+use Rattle.jlr_book.specs.ImageKeeping.{image_from}
+use Rattle.jlr_book.specs.Led.{closed}
+use Rattle.jlr_book.proofs.ImageKeeping.{takes_over}
+use Rattle.jlr_book.proofs.image.image.Image.take_over.Goals as goal
 
 pub returns-clause-image : goal.returns-clause-image
 returns-clause-image c = λ m run.

@@ -4,11 +4,11 @@ ghost use Rattle.jlr_machine.specs.declared.machine.Machine.{Machine as MachineO
 ghost use Rattle.jlr_machine.specs.Run.{Run, empty};
 ghost use Rattle.jlr_machine.specs.WellFormed.{IsImage, IsWellFormed};
 ghost use Rattle.jlr_plain.specs.Unseen.{unseen};
-ghost use Rattle.jlr_image.specs.Led.{closed, shut, LeadsOn};
-ghost use Rattle.jlr_image.specs.Keeping.{kept_from};
+ghost use Rattle.jlr_book.specs.Led.{closed, shut, LeadsOn};
+ghost use Rattle.jlr_book.specs.ImageKeeping.{kept_from};
 
-use crate::cells::add_cells;
-use crate::following::{follow_all, follow_at, make_array, work_of};
+use crate::image::cells::add_cells;
+use crate::image::following::{follow_all, follow_at, make_array, work_of};
 use jlr_machine::copies::copy_machine;
 use jlr_machine::entry::Entry;
 use jlr_machine::items::Items;
@@ -57,7 +57,7 @@ pub struct Image {
 impl Model for Image {
     ghost use Rattle.std.specs.Prelude.{drop};
     ghost use Rattle.jlr_machine.specs.declared.machine.Machine.{Machine as MachineOf};
-    ghost use Rattle.jlr_image.specs.Keeping.{image_from, Keeps};
+    ghost use Rattle.jlr_book.specs.ImageKeeping.{image_from, Keeps};
 
     ghost Value = { MachineOf };
 

@@ -1,6 +1,6 @@
 //! The cells of an empty machine, made in pieces.
 ghost use Rattle.std.specs.Prelude.{◌≡◌};
-ghost use Rattle.jlr_image.specs.Keeping.{AreFree};
+ghost use Rattle.jlr_book.specs.ImageKeeping.{AreFree};
 
 use jlr_machine::object::Object;
 use std::alloc::AllocError;

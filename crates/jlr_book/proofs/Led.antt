@@ -7,7 +7,7 @@ use Rattle.jlr_machine.specs.Run.{Run, apply}
 use Rattle.jlr_laws.proofs.Law.{legal_kept}
 use Rattle.jlr_histories.proofs.Left.{leaves_the_same}
 use Rattle.jlr_plain.specs.Unseen.{unseen}
-use Rattle.jlr_image.specs.Led.{led, LeadsOn}
+use Rattle.jlr_book.specs.Led.{led, LeadsOn}
 
 -- what was seen matters to nothing else
 pub same_after : (m : Machine) (e : Entry) → unseen (apply (unseen m) e) ≡ unseen (apply m e)

@@ -12,12 +12,12 @@ use Rattle.jlr_machine.specs.Run.{Run, empty}
 use Rattle.jlr_laws.proofs.Empty.{empty_is_well_formed}
 use Rattle.jlr_laws.proofs.Frames.{no_some}
 use Rattle.jlr_plain.specs.Unseen.{unseen}
-use Rattle.jlr_image.specs.Led.{closed, led, shut, LeadsOn}
-use Rattle.jlr_image.specs.Keeping.{image_from, kept_from, AreFree}
+use Rattle.jlr_book.specs.Led.{closed, led, shut, LeadsOn}
+use Rattle.jlr_book.specs.ImageKeeping.{image_from, kept_from, AreFree}
 use Rattle.std.specs.Global.{Vec}
 use Rattle.std.specs.Vec.{vec_len}
 use Rattle.jlr_machine.specs.declared.object.Object.{Object}
-use Rattle.jlr_image.proofs.Led.{led_by_run}
+use Rattle.jlr_book.proofs.Led.{led_by_run}
 
 -- ---- At the start
 

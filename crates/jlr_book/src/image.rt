@@ -3,7 +3,6 @@
 //! A cut hands a trace over, and later steps apply its entries one by one, by the plain program; contracts see the
 //! machine where all of it leads. Memory is taken by a copy, and by what an entry makes; where that fails the image
 //! stays as it was.
-#![tactic(auto)]
 
 mod cells;
 mod following;

@@ -1,8 +1,8 @@
 use Rattle.std.proofs.Common.{◌≡◌, [], List, drop, sym, ap, subst, arith}
 use Rattle.jlr_machine.specs.declared.entry.Entry.{Entry}
-use Rattle.jlr_image.specs.Led.{LeadsOn}
-use Rattle.jlr_image.proofs.Keeping.{starts}
-use Rattle.jlr_image.proofs.image.Image.new.Goals as goal
+use Rattle.jlr_book.specs.Led.{LeadsOn}
+use Rattle.jlr_book.proofs.ImageKeeping.{starts}
+use Rattle.jlr_book.proofs.image.image.Image.new.Goals as goal
 
 pub invariant_of-result : goal.invariant_of-result
 invariant_of-result c =

@@ -7,7 +7,7 @@ use Rattle.jlr_machine.specs.declared.object.Object.{Object}
 use Rattle.jlr_machine.specs.declared.machine.Machine.{Machine}
 use Rattle.jlr_machine.specs.declared.entry.Entry.{Entry}
 use Rattle.jlr_machine.specs.Run.{empty}
-use Rattle.jlr_image.specs.Led.{led, shut, LeadsOn}
+use Rattle.jlr_book.specs.Led.{led, shut, LeadsOn}
 
 -- the machine that is kept; none stands for the empty one of the limits
 abbrev pub kept_from : Limits → Option Machine → Machine

@@ -1,9 +1,9 @@
 use Rattle.std.proofs.Common.{◌≡◌, ◌+◌, drop, Ok, Err, OnOk}
 use Rattle.jlr_machine.specs.Run.{apply}
 use Rattle.jlr_plain.specs.Unseen.{unseen}
-use Rattle.jlr_image.specs.Led.{LeadsOn}
-use Rattle.jlr_image.proofs.Led.{leads_past}
-use Rattle.jlr_image.proofs.following.follow_at.Goals as goal
+use Rattle.jlr_book.specs.Led.{LeadsOn}
+use Rattle.jlr_book.proofs.Led.{leads_past}
+use Rattle.jlr_book.proofs.image.following.follow_at.Goals as goal
 
 pub returns-clause-leads : goal.returns-clause-leads
 returns-clause-leads c =

@@ -1,9 +1,9 @@
 use Rattle.std.proofs.Common.{◌≡◌, Option, drop, arith, sym, ◌∙◌, ap, subst, false, is_some, vec_len}
 use Rattle.jlr_machine.specs.declared.machine.Machine.{Machine}
-use Rattle.jlr_image.specs.Led.{led, shut, LeadsOn}
-use Rattle.jlr_image.specs.Keeping.{kept_from}
-use Rattle.jlr_image.proofs.Keeping.{made}
-use Rattle.jlr_image.proofs.image.Image.make_cells.Goals as goal
+use Rattle.jlr_book.specs.Led.{led, shut, LeadsOn}
+use Rattle.jlr_book.specs.ImageKeeping.{kept_from}
+use Rattle.jlr_book.proofs.ImageKeeping.{made}
+use Rattle.jlr_book.proofs.image.image.Image.make_cells.Goals as goal
 
 whole : (c : goal.After-drop) → kept_from c.self.inside.limits c.replace.new.self ≡ kept_from c.self.inside.limits c.self.inside.machine
 whole c =

@@ -1,5 +1,5 @@
 use Rattle.std.proofs.Common.{◌≡◌}
-use Rattle.jlr_image.proofs.image.Image.follow_many.Given as goal
+use Rattle.jlr_book.proofs.image.image.Image.follow_many.Given as goal
 
 abbrev pub invariant-loop : goal.invariant-loop
 invariant-loop l = l.self ≡ l.fn.self

@@ -1,6 +1,6 @@
 //! A machine that follows entries.
 ghost use Rattle.std.specs.Prelude.{◌≡◌, ◌+◌, ◌<◌, [], length, drop, OnOk, OnErr};
-ghost use Rattle.jlr_image.specs.Led.{led, LeadsOn};
+ghost use Rattle.jlr_book.specs.Led.{led, LeadsOn};
 
 use jlr_machine::ask::Ask;
 use jlr_machine::entry::Entry;
