@@ -1,2 +1,5 @@
 pub mod Fitting
 pub mod Handing
+pub mod Carrying
+pub mod Handles
+pub mod Values

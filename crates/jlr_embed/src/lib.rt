@@ -4,6 +4,7 @@
 //! which the core says so. It keeps the promise of `IsStep`, and that each answer is of the kind of its ask.
 #![tactic(auto)]
 
+pub mod handle;
 mod unrecorded;
 
 pub use unrecorded::Unrecorded;

@@ -1,14 +1,14 @@
 //! Cleaners, and guards over tokens: numbers by which the program knows its own files, sockets and the like. A heap
 //! gives a token back once.
 ghost use Rattle.std.specs.Prelude.{◌≡◌, Err, MatchOption, Ok};
-ghost use Rattle.jlr_handle.specs.Tells.{fault_numbered, outcome_numbered};
-ghost use Rattle.jlr_handle.specs.Ways.{Adopts, Ends, EndsCarrying, GivesHandle, GivesJob, GivesToken, IsOutOfRange};
+ghost use Rattle.jlr_embed.specs.Tells.{fault_numbered, outcome_numbered};
+ghost use Rattle.jlr_embed.specs.Ways.{Adopts, Ends, EndsCarrying, GivesHandle, GivesJob, GivesToken, IsOutOfRange};
 ghost use Rattle.refheap_c.specs.Layouts.{call_outcome};
 
 use jlr_event::event::Event;
-use jlr_handle::out::Taken;
-use jlr_handle::status::RANGE;
-use jlr_handle::{Heap, calls, tell};
+use jlr_embed::handle::out::Taken;
+use jlr_embed::handle::status::RANGE;
+use jlr_embed::handle::{Heap, calls, tell};
 use jlr_machine::ask::{Ask, CallOutcome, Outcome};
 use jlr_machine::text::WriteCount;
 use jlr_types::{ActionNo, Handle, Mutator};

@@ -1,12 +1,12 @@
 //! Collections, the handler's steps, cycles in pieces, and what is counted and recorded.
 ghost use Rattle.std.specs.Prelude.{◌≡◌};
-ghost use Rattle.jlr_handle.specs.Calls.{HandsOver, Marks};
-ghost use Rattle.jlr_handle.specs.Tells.{TellsHanded, TellsProgress};
-ghost use Rattle.jlr_handle.specs.Ways.{Ends, GivesCounts, GivesFailure, GivesNote, GivesTruth};
+ghost use Rattle.jlr_embed.specs.Calls.{HandsOver, Marks};
+ghost use Rattle.jlr_embed.specs.Tells.{TellsHanded, TellsProgress};
+ghost use Rattle.jlr_embed.specs.Ways.{Ends, GivesCounts, GivesFailure, GivesNote, GivesTruth};
 
 use jlr_event::event::Event;
-use jlr_handle::out::{Counts, Failed};
-use jlr_handle::{Heap, calls};
+use jlr_embed::handle::out::{Counts, Failed};
+use jlr_embed::handle::{Heap, calls};
 use jlr_machine::ask::{Ask, FullMode};
 use jlr_types::Mutator;
 use std::alloc::Global;

@@ -1,11 +1,11 @@
 //! A handle is opened and closed; mutators join and leave.
 ghost use Rattle.std.specs.Prelude.{◌≡◌, ◌⊎◌, None};
 ghost use Rattle.jlr_types.specs.Ranges.{first_fault};
-ghost use Rattle.jlr_handle.specs.Calls.{Opens, TellsLimit};
-ghost use Rattle.jlr_handle.specs.Ways.{Ends};
+ghost use Rattle.jlr_embed.specs.Calls.{Opens, TellsLimit};
+ghost use Rattle.jlr_embed.specs.Ways.{Ends};
 
 use jlr_event::event::Event;
-use jlr_handle::{Heap, calls, open};
+use jlr_embed::handle::{Heap, calls, open};
 use jlr_machine::ask::Ask;
 use jlr_types::Mutator;
 use std::alloc::Global;

@@ -1,11 +1,11 @@
 //! Names.
 ghost use Rattle.std.specs.Prelude.{◌≡◌, ◌⊎◌, false, true};
 ghost use Rattle.jlr_machine.specs.Names.{is_name};
-ghost use Rattle.jlr_handle.specs.Ways.{Ends, GivesHandle, GivesName, IsOutOfRange};
+ghost use Rattle.jlr_embed.specs.Ways.{Ends, GivesHandle, GivesName, IsOutOfRange};
 
 use jlr_event::event::Event;
-use jlr_handle::status::RANGE;
-use jlr_handle::{Heap, calls};
+use jlr_embed::handle::status::RANGE;
+use jlr_embed::handle::{Heap, calls};
 use jlr_machine::ask::Ask;
 use jlr_machine::text::Name;
 use jlr_types::{Handle, Mutator};

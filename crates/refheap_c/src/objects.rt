@@ -1,12 +1,12 @@
 //! Plain objects, arrays and their fields, and handles.
 ghost use Rattle.std.specs.Prelude.{◌≡◌, ◌≤◌, ◌<◌, ◌⊎◌};
-ghost use Rattle.jlr_handle.specs.Ways.{Ends, GivesHandle, GivesInteger, GivesTruth, IsOutOfRange};
+ghost use Rattle.jlr_embed.specs.Ways.{Ends, GivesHandle, GivesInteger, GivesTruth, IsOutOfRange};
 ghost use Rattle.refheap_c.specs.Layouts.{layout_of};
 
 use crate::layout::layout;
 use jlr_event::event::Event;
-use jlr_handle::status::RANGE;
-use jlr_handle::{Heap, calls};
+use jlr_embed::handle::status::RANGE;
+use jlr_embed::handle::{Heap, calls};
 use jlr_machine::ask::Ask;
 use jlr_types::{FieldNo, Handle, Length, Mutator};
 use std::alloc::Global;

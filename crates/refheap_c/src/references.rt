@@ -1,9 +1,9 @@
 //! Soft, weak and phantom references, and their queues.
 ghost use Rattle.std.specs.Prelude.{◌≡◌};
-ghost use Rattle.jlr_handle.specs.Ways.{Ends, GivesHandle, GivesTruth};
+ghost use Rattle.jlr_embed.specs.Ways.{Ends, GivesHandle, GivesTruth};
 
 use jlr_event::event::Event;
-use jlr_handle::{Heap, calls};
+use jlr_embed::handle::{Heap, calls};
 use jlr_machine::ask::Ask;
 use jlr_types::{Handle, Mutator, RefKind};
 use std::alloc::Global;

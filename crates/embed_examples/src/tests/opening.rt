@@ -1,6 +1,6 @@
 //! Heaps for C: with which limits they open, and which limit is named.
-use jlr_handle::Heap;
-use jlr_handle::open::{close, open};
+use jlr_embed::handle::Heap;
+use jlr_embed::handle::open::{close, open};
 use std::alloc::Global;
 
 /// Cells, sessions, resources and the age of soft references, and what opening a heap of them returns.

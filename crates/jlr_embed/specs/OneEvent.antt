@@ -1,0 +1,15 @@
+-- One event of the heap behind a handle, which is open and stays so. No clause of a crate above names them.
+use Rattle.std.specs.Prelude.{◌≡◌, ℕ, Option, Some, None}
+use Rattle.jlr_machine.specs.declared.ask.Answer.{Answer}
+use Rattle.jlr_event.specs.declared.event.Event.{Event}
+use Rattle.jlr_event.specs.declared.event.Reply.TheVariants.{Answered}
+use Rattle.jlr_core.specs.Steps.{Steps}
+use Rattle.jlr_embed.specs.Calls.{Heap}
+
+abbrev pub Asked : Option Heap → Event ℕ → Answer → Option Heap → Type 0
+Asked None event answer new = ⊥
+Asked (Some old) event answer new = (h : Heap) × (new ≡ Some h) × Steps old event (Answered answer None) h
+
+abbrev pub Carried : Option Heap → Event ℕ → Answer → Option ℕ → Option Heap → Type 0
+Carried None event answer token new = ⊥
+Carried (Some old) event answer token new = (h : Heap) × (new ≡ Some h) × Steps old event (Answered answer token) h
