@@ -1,1 +1,5 @@
 pub mod Typing
+pub mod Forms
+pub mod Refusals
+pub mod Lines
+pub mod Rows

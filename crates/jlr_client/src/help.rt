@@ -1,6 +1,6 @@
 //! What the client says of itself.
-use jlr_manual::form::forms;
-use jlr_manual::table::line_of;
+use crate::manual::form::forms;
+use crate::manual::table::line_of;
 use std::alloc::{AllocError, Global};
 
 /// What may be typed at a client.

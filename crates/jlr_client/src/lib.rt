@@ -6,6 +6,7 @@
 
 pub mod client;
 mod help;
+pub mod manual;
 mod pipe;
 mod terminal;
 pub mod typed;

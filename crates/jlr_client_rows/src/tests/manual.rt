@@ -1,7 +1,7 @@
 //! The manual: its examples are lines of their forms, and its pages are those of its words.
-use jlr_manual::form::{Form, forms};
-use jlr_manual::refusal::{REFUSALS, phrase, refusal_said};
-use jlr_manual::table::{line_of, pages, table};
+use jlr_client::manual::form::{Form, forms};
+use jlr_client::manual::refusal::{REFUSALS, phrase, refusal_said};
+use jlr_client::manual::table::{line_of, pages, table};
 use jlr_wire::command::read_command;
 use std::alloc::Global;
 use std::test::Fail;

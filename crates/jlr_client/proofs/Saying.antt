@@ -9,7 +9,7 @@ use Rattle.jlr_types.specs.declared.Refusal.{Refusal}
 use Rattle.jlr_types.specs.declared.Refusal.TheVariants.{NoMemory, HeapFull, NoHandle, HandlesFull, WrongKind, NoField, WrongType, Null}
 use Rattle.jlr_types.specs.declared.Refusal.TheVariants.{NoName, NamesFull, Busy, Closed, NoSession, Exhausted, Malformed, TooLong, NotOut}
 use Rattle.jlr_types.specs.declared.Refusal.TheVariants.{WouldWait, ResourcesFull}
-use Rattle.jlr_manual.specs.Lines.{line_of, lines, named, refusal_in}
+use Rattle.jlr_client.specs.Lines.{line_of, lines, named, refusal_in}
 
 -- each row has the line of its refusal
 abbrev AreRows : List (List ℕ × Refusal) → Type 0

@@ -7,11 +7,11 @@ use Rattle.jlr_machine.specs.declared.ask.FullMode.TheVariants.{Policy, ClearAll
 use Rattle.jlr_wire.specs.Commands.{layout, mode_letter, Fields, IsCommand}
 use Rattle.jlr_wire.specs.declared.command.Command.{Command}
 use Rattle.jlr_wire.specs.declared.command.Command.TheVariants as command
-use Rattle.jlr_manual.specs.declared.form.Form.{Form}
-use Rattle.jlr_manual.specs.declared.form.Form.TheVariants as form
-use Rattle.jlr_manual.specs.declared.operand.Operand.{Operand}
-use Rattle.jlr_manual.specs.declared.operand.Operand.TheVariants as operand
-use Rattle.jlr_manual.specs.Forms.{name_of, operands_of, IsOperand, AreOperands, IsOfForm, FormsAreCommands}
+use Rattle.jlr_client.specs.declared.manual.form.Form.{Form}
+use Rattle.jlr_client.specs.declared.manual.form.Form.TheVariants as form
+use Rattle.jlr_client.specs.declared.manual.operand.Operand.{Operand}
+use Rattle.jlr_client.specs.declared.manual.operand.Operand.TheVariants as operand
+use Rattle.jlr_client.specs.Forms.{name_of, operands_of, IsOperand, AreOperands, IsOfForm, FormsAreCommands}
 
 of_form : (line : List ℕ) (f : Form) (texts : List (List ℕ)) → AreOperands (operands_of f) texts → length line ≤ 512
     → line ≡ join_with_byte 32 (name_of f ∷ texts) → IsOfForm line f

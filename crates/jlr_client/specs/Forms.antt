@@ -8,12 +8,12 @@ use Rattle.jlr_device.specs.declared.device.Mode.{Mode as ModeOf}
 use Rattle.jlr_wire.specs.Texts.{IsPath, IsName, AreDigits}
 use Rattle.jlr_wire.specs.Commands.{layout, mode_letter, IsCommand}
 use Rattle.jlr_wire.specs.declared.command.Command.{Command}
-use Rattle.jlr_manual.specs.declared.form.Form.{Form}
-use Rattle.jlr_manual.specs.declared.form.Form.TheVariants as form
-use Rattle.jlr_manual.specs.declared.operand.Operand.{Operand}
-use Rattle.jlr_manual.specs.declared.operand.Operand.TheVariants.{Layout, Length, Object, Left, Right, Value, Reference}
-use Rattle.jlr_manual.specs.declared.operand.Operand.TheVariants.{Queue, Cleaner, Cleanable, Field, Integer, Note, Mode}
-use Rattle.jlr_manual.specs.declared.operand.Operand.TheVariants.{Path, Count, Bytes, Name}
+use Rattle.jlr_client.specs.declared.manual.form.Form.{Form}
+use Rattle.jlr_client.specs.declared.manual.form.Form.TheVariants as form
+use Rattle.jlr_client.specs.declared.manual.operand.Operand.{Operand}
+use Rattle.jlr_client.specs.declared.manual.operand.Operand.TheVariants.{Layout, Length, Object, Left, Right, Value, Reference}
+use Rattle.jlr_client.specs.declared.manual.operand.Operand.TheVariants.{Queue, Cleaner, Cleanable, Field, Integer, Note, Mode}
+use Rattle.jlr_client.specs.declared.manual.operand.Operand.TheVariants.{Path, Count, Bytes, Name}
 
 -- the word of a form
 abbrev pub name_of : Form → List ℕ

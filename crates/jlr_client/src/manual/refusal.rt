@@ -1,7 +1,7 @@
 //! Refusals in words, and which reply line says which.
 ghost use Rattle.std.specs.Prelude.{◌≡◌, ◌↔◌, Some};
 ghost use Rattle.jlr_types.specs.declared.Refusal.{Refusal as RefusalOf};
-ghost use Rattle.jlr_manual.specs.Lines.{line_of, refusal_in};
+ghost use Rattle.jlr_client.specs.Lines.{line_of, refusal_in};
 
 use jlr_types::Refusal;
 
@@ -61,7 +61,7 @@ pub fn refusal_said(line: &[u8]) -> Option<Refusal>
 }
 
 /// What stands beside a line in the list of the lines of refusals.
-#[tactic(auto, unfolding(crate::specs::Lines::refusal_in))]
+#[tactic(auto, unfolding(crate::manual::specs::Lines::refusal_in))]
 fn beside(line: &[u8]) -> Option<Refusal>
     ensures { result ≡ refusal_in line.now }
 {

@@ -1,6 +1,6 @@
 use Rattle.std.proofs.Common.{arith, refl}
-use Rattle.jlr_manual.specs.declared.form.Form.TheVariants as form
-use Rattle.jlr_manual.proofs.form.forms.Goals as goal
+use Rattle.jlr_client.specs.declared.manual.form.Form.TheVariants as form
+use Rattle.jlr_client.proofs.manual.form.forms.Goals as goal
 
 pub returns : goal.returns
 returns c form.New = (0, omega arith, refl)

@@ -2,7 +2,6 @@
 //! pages.
 //!
 //! The lines of the forms are proved to be those that the protocol reads.
-#![tactic(auto)]
 
 pub mod form;
 pub mod law;

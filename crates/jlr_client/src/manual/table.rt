@@ -1,10 +1,10 @@
 //! The manual as text: the table of all forms, and the page of one.
 ghost use Rattle.std.specs.Prelude.{◌≡◌, IfOk, string_bytes};
-ghost use Rattle.jlr_manual.specs.Rows.{row_of};
+ghost use Rattle.jlr_client.specs.Rows.{row_of};
 
-use crate::form::{Form, forms};
-use crate::operand::OPERANDS;
-use crate::refusal::{REFUSALS, phrase};
+use crate::manual::form::{Form, forms};
+use crate::manual::operand::OPERANDS;
+use crate::manual::refusal::{REFUSALS, phrase};
 use std::alloc::{AllocError, Global};
 
 /// A form with its operands, as `put h k v`.

@@ -1,5 +1,5 @@
 //! What the manual says of each form, beside its operands and its refusals.
-use crate::form::Form;
+use crate::manual::form::Form;
 
 /// What the manual says of a form.
 #[derive(Clone, Copy, Debug)]

@@ -5,8 +5,8 @@ use Rattle.jlr_types.specs.declared.RefKind.TheVariants as kind
 use Rattle.jlr_machine.specs.declared.ask.FullMode.TheVariants.{Policy, ClearAll}
 use Rattle.jlr_machine.specs.declared.ask.Ask.TheVariants as ask
 use Rattle.jlr_machine.specs.Refusals.{listed}
-use Rattle.jlr_manual.specs.declared.form.Form.{Form}
-use Rattle.jlr_manual.specs.declared.form.Form.TheVariants as form
+use Rattle.jlr_client.specs.declared.manual.form.Form.{Form}
+use Rattle.jlr_client.specs.declared.manual.form.Form.TheVariants as form
 
 -- what the machine's table lists for the first ask of a command of this form, whatever its operands; `bye` asks nothing
 abbrev pub refusals_of : Form → List Refusal

@@ -1,11 +1,11 @@
 //! The forms of commands: each with its word and its operands.
 ghost use Rattle.std.specs.Prelude.{◌≡◌};
 ghost use Rattle.std.specs.List.{Contains};
-ghost use Rattle.jlr_manual.specs.declared.form.Form.{Form as FormOf};
-ghost use Rattle.jlr_manual.specs.Forms.{name_of, operands_of};
-ghost use Rattle.jlr_manual.specs.Refusals.{refusals_of};
+ghost use Rattle.jlr_client.specs.declared.manual.form.Form.{Form as FormOf};
+ghost use Rattle.jlr_client.specs.Forms.{name_of, operands_of};
+ghost use Rattle.jlr_client.specs.Refusals.{refusals_of};
 
-use crate::operand::Operand;
+use crate::manual::operand::Operand;
 use jlr_types::Refusal;
 
 /// The form of a command: its word, or for `gc soft` its two words.

@@ -1,10 +1,10 @@
 -- How the manual writes a form.
 use Rattle.std.specs.Prelude.{ℕ, List, ◌∷◌, ◌++◌, codes}
 use Rattle.std.specs.List.{flat_map}
-use Rattle.jlr_manual.specs.declared.form.Form.{Form}
-use Rattle.jlr_manual.specs.declared.operand.Operand.{Operand}
-use Rattle.jlr_manual.specs.declared.operand.Operand.TheVariants as operand
-use Rattle.jlr_manual.specs.Forms.{name_of, operands_of}
+use Rattle.jlr_client.specs.declared.manual.form.Form.{Form}
+use Rattle.jlr_client.specs.declared.manual.operand.Operand.{Operand}
+use Rattle.jlr_client.specs.declared.manual.operand.Operand.TheVariants as operand
+use Rattle.jlr_client.specs.Forms.{name_of, operands_of}
 
 -- the letter or the word of an operand
 abbrev pub letter_of : Operand → List ℕ

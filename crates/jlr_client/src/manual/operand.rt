@@ -1,6 +1,6 @@
 //! What stands behind the word of a command.
 ghost use Rattle.std.specs.Prelude.{◌≡◌};
-ghost use Rattle.jlr_manual.specs.Rows.{letter_of};
+ghost use Rattle.jlr_client.specs.Rows.{letter_of};
 
 /// What an operand of a command is.
 #[derive(Clone, Copy, Debug)]

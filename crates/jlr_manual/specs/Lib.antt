@@ -1,4 +1,0 @@
-pub mod Forms
-pub mod Refusals
-pub mod Lines
-pub mod Rows
