@@ -13,6 +13,7 @@ pub mod progress;
 mod reach;
 pub mod save;
 mod saved_file;
+pub mod saving;
 pub mod serve;
 pub mod session;
 pub mod stats;

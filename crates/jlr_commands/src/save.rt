@@ -3,7 +3,7 @@ ghost use Rattle.std.specs.Prelude.{◌≡◌, ◌≤◌, List, ℕ, length, IfO
 ghost use Rattle.std.specs.Io.KnownBytes.{Appends, Consumes};
 ghost use Rattle.jlr_prog.specs.Books.{History};
 ghost use Rattle.jlr_prog.specs.Histories.{IsSession};
-ghost use Rattle.jlr_saving.specs.Saving.{IsSaved};
+ghost use Rattle.jlr_commands.specs.Saving.{IsSaved};
 ghost use Rattle.jlr_session.specs.Limits.{FindsEnd, most_bytes};
 ghost use Rattle.jlr_session.specs.declared.shell.SessionEnd.{SessionEnd as SessionEndOf};
 
@@ -14,7 +14,7 @@ use jlr_command_line::reason::{Place, Reason};
 use jlr_device::Device;
 use jlr_prog::Book;
 use jlr_prog::run::run_over;
-use jlr_saving::file::trace_bytes_of;
+use crate::saving::file::trace_bytes_of;
 use jlr_session::shell::SessionEnd;
 use jlr_types::Limits;
 use std::alloc::{AllocError, Global};

@@ -1,7 +1,7 @@
 //! A heap that clients share over a Unix socket: `refheap serve`.
 ghost use Rattle.std.specs.Prelude.{◌≡◌, ◌↔◌, IfOk, IfSome, IsSome, IsTrue};
 ghost use Rattle.jlr_prog.specs.Books.{last};
-ghost use Rattle.jlr_saving.specs.Saving.{IsSaved};
+ghost use Rattle.jlr_commands.specs.Saving.{IsSaved};
 
 use crate::descriptors::warn_of_few;
 use crate::reach::fenced;
@@ -10,7 +10,7 @@ use jlr_command_line::arguments::Service;
 use jlr_command_line::fault::ProgramFault;
 use jlr_command_line::reason::{Place, Reason};
 use jlr_device::places::Inode;
-use jlr_saving::file::trace_bytes_of;
+use crate::saving::file::trace_bytes_of;
 use jlr_server::Book;
 use jlr_server::hall::closing::CloseFault;
 use jlr_server::hall::history::Blank;

@@ -6,9 +6,9 @@ use Rattle.jlr_machine.specs.Run.{Run}
 use Rattle.jlr_trace.specs.declared.file.TraceFile.{TraceFile}
 use Rattle.jlr_trace.specs.Files.{HasSpelling, file_text, history_of, spelled_file}
 use Rattle.jlr_trace.specs.Ranges.{AreLimits}
-use Rattle.jlr_saving.specs.Saving.{IsSaved, file_of}
-use Rattle.jlr_saving.proofs.Limits.{are_limits}
-use Rattle.jlr_saving.proofs.file.trace_bytes_of.Goals as goal
+use Rattle.jlr_commands.specs.Saving.{IsSaved, file_of}
+use Rattle.jlr_commands.proofs.Limits.{are_limits}
+use Rattle.jlr_commands.proofs.saving.file.trace_bytes_of.Goals as goal
 
 pub run_has_spelling-requires-clause-image : goal.run_has_spelling-requires-clause-image
 run_has_spelling-requires-clause-image g c = subst IsImage (sym c.in_ok-image.ensures) c.is_history.ensures.image

@@ -1,6 +1,6 @@
 //! The bytes of a book's history, as a trace file.
 ghost use Rattle.std.specs.Prelude.{IfOk};
-ghost use Rattle.jlr_saving.specs.Saving.{IsSaved};
+ghost use Rattle.jlr_commands.specs.Saving.{IsSaved};
 
 use jlr_book::book::Book;
 use jlr_trace::ranges::fits::run_has_spelling;
