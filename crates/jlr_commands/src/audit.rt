@@ -12,7 +12,7 @@ use jlr_audit::verdict::Verdict;
 use jlr_audit::watch::Watch;
 use jlr_command_line::arguments::AuditOrder;
 use jlr_command_line::fault::ProgramFault;
-use jlr_explain::explainer::Explainer;
+use jlr_audit::explain::explainer::Explainer;
 use jlr_trace_fields::version::Version;
 use jlr_trace::streamed::{StreamedTrace, streamed_trace};
 use jlr_trace::window::StreamFault;

@@ -1,6 +1,6 @@
 use Rattle.std.proofs.Common.{arith}
 use Rattle.jlr_laws.proofs.Empty.{well_formed_within}
-use Rattle.jlr_explain.proofs.rules.when_allowed.Goals as goal
+use Rattle.jlr_audit.proofs.explain.rules.when_allowed.Goals as goal
 
 pub may_collect_plain-requires-clause-cells : goal.may_collect_plain-requires-clause-cells
 may_collect_plain-requires-clause-cells c = omega (arith, c.requires.limits.cells)

@@ -2,8 +2,8 @@
 //! and one entry is in memory at a time.
 ghost use Rattle.jlr_machine.specs.WellFormed.{IsWellFormed};
 
-use crate::history::{image_said, said_of};
-use jlr_audit::watch::Watch;
+use crate::explain::history::{image_said, said_of};
+use crate::watch::Watch;
 use jlr_machine::entry::Entry;
 use jlr_machine::machine::Machine;
 use jlr_trace_fields::parts::record::Placed;

@@ -2,9 +2,9 @@
 ghost use Rattle.std.specs.Prelude.{◌≡◌, IfOk};
 ghost use Rattle.jlr_machine.specs.WellFormed.{IsWellFormed};
 
-use crate::asks::answer_said;
-use crate::due::due_answer;
-use crate::refusals::reason;
+use crate::explain::asks::answer_said;
+use crate::explain::due::due_answer;
+use crate::explain::refusals::reason;
 use jlr_machine::ask::{Answer, Ask};
 use jlr_machine::entry::{Chosen, Entry};
 use jlr_machine::machine::Machine;

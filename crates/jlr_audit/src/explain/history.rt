@@ -2,8 +2,8 @@
 ghost use Rattle.std.specs.Prelude.{IfOk, IfNone, IsSome};
 ghost use Rattle.jlr_machine.specs.WellFormed.{IsWellFormed, IsImage};
 
-use crate::asks::{answer_said, ask_said};
-use crate::rules::rule_broken;
+use crate::explain::asks::{answer_said, ask_said};
+use crate::explain::rules::rule_broken;
 use jlr_machine::entry::Entry;
 use jlr_machine::machine::Machine;
 use jlr_trace_fields::parts::record::Placed;
