@@ -1,8 +1,8 @@
 //! Figures as JSON, in one line.
-use crate::asks::SEATS;
-use crate::figures::{Collection, Figures};
-use crate::kind::KINDS;
-use crate::kinds::{KIND_NAMES, Sample};
+use crate::stats::asks::SEATS;
+use crate::stats::figures::{Collection, Figures};
+use crate::stats::kind::KINDS;
+use crate::stats::kinds::{KIND_NAMES, Sample};
 use std::alloc::{AllocError, Global};
 
 /// Adds a name and its number, behind a comma unless it is the first.

@@ -1,8 +1,8 @@
 //! Figures as a table.
-use crate::asks::SEATS;
-use crate::figures::Figures;
-use crate::kind::KINDS;
-use crate::kinds::{KIND_NAMES, Sample};
+use crate::stats::asks::SEATS;
+use crate::stats::figures::Figures;
+use crate::stats::kind::KINDS;
+use crate::stats::kinds::{KIND_NAMES, Sample};
 use std::alloc::{AllocError, Global};
 
 fn push_number(alloc: Global, text: &mut String, number: u64) -> Result<(), AllocError> {

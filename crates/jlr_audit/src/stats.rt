@@ -1,7 +1,6 @@
 //! The figures of a saved history: its objects over time, collections, queues, actions, files and asks.
 //!
 //! They are taken while the history is audited, so that each entry is read once.
-#![tactic(auto)]
 
 mod asks;
 mod collections;

@@ -1,6 +1,6 @@
 //! How often each seat asked what.
-use crate::kind::{KINDS, kind_of};
-use crate::kinds::count_one;
+use crate::stats::kind::{KINDS, kind_of};
+use crate::stats::kinds::count_one;
 use jlr_machine::entry::Entry;
 use std::alloc::{AllocError, Global};
 
