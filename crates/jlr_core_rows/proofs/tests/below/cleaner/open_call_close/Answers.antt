@@ -3,7 +3,7 @@ use Rattle.jlr_machine.specs.declared.machine.ResourceState.TheVariants as state
 use Rattle.jlr_resource.specs.declared.place.Kept.TheVariants as kept
 use Rattle.jlr_cleaner.specs.Cleanings.{HasWork}
 use Rattle.jlr_cleaner.proofs.Closing.{work_changed}
-use Rattle.jlr_base_rows.proofs.tests.cleaner.open_call_close.Goals as goal
+use Rattle.jlr_core_rows.proofs.tests.below.cleaner.open_call_close.Goals as goal
 
 pub take_up-requires-clause-idle : goal.take_up-requires-clause-idle
 take_up-requires-clause-idle g c =

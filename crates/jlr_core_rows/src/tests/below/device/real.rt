@@ -1,6 +1,6 @@
 //! Files and a pair of sockets of the system, in a folder of their own.
 use super::{bytes, on_device, path};
-use crate::tests::calls::{Got, Stage, play};
+use crate::tests::below::calls::{Got, Stage, play};
 use jlr_device::guarded::guarded_open;
 use jlr_device::real::{RealDevice, RealResource};
 use jlr_device::{Device, Mode};

@@ -1,7 +1,7 @@
 //! A device in memory whose calls go as they are scripted, and counts of failures at their last value.
 use super::{bytes, on_device, on_resource};
-use crate::tests::calls::{Got, Stage, play};
-use crate::tests::words::{called, fault, parsed};
+use crate::tests::below::calls::{Got, Stage, play};
+use crate::tests::below::words::{called, fault, parsed};
 use jlr_device::script::{Script, ScriptDevice, ScriptResource, Step};
 use jlr_device::{Device, Finished, Mode, Resource};
 use jlr_types::Fault;

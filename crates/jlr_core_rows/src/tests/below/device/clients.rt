@@ -1,6 +1,6 @@
 //! Calls that would have to wait, made for a client that goes.
 use super::{bytes, on_device, path};
-use crate::tests::calls::{Got, Stage, play};
+use crate::tests::below::calls::{Got, Stage, play};
 use jlr_device::guarded::{guarded_connect, guarded_write};
 use jlr_device::real::{RealDevice, RealResource};
 use jlr_device::{Device, Resource};

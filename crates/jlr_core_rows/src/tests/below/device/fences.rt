@@ -1,8 +1,8 @@
 //! Devices that let through only allowed paths: over a device in memory, and over the files of the system in a folder
 //! of their own.
 use super::{on_device, path};
-use crate::tests::calls::{Got, Stage, play};
-use crate::tests::words::{called, parsed};
+use crate::tests::below::calls::{Got, Stage, play};
+use crate::tests::below::words::{called, parsed};
 use jlr_device::fenced::{Fence, Fenced};
 use jlr_device::places::{Inode, Places, SystemPlaces};
 use jlr_device::real::{RealDevice, RealResource};

@@ -5,7 +5,7 @@
 //! 64 1 Sessions` says which limit is named as out of its range, or `good`, in the order cells, sessions, resources,
 //! soft age, trace, budget. `kept 5 7 of 3` says that a soft reference that gave its referent last in collection 5 is
 //! kept in collection 7 at soft age 3, `gone 5 8 of 3` that it is not, and `cleared` that it is not where all are.
-use crate::tests::words::{parsed, small, tiny};
+use crate::tests::below::words::{parsed, small, tiny};
 use jlr_soft::{Mode, Policy};
 use jlr_types::{
     ActionNo, FieldKind, Handle, Layout, LimitFault, Limits, Meter, Mutator, Refusal, Rid, Slot,
