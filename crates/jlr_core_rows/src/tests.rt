@@ -26,6 +26,7 @@ mod long_queues;
 mod memory;
 mod names;
 mod objects;
+mod plain;
 mod queues;
 mod references;
 mod refusals;

@@ -3,7 +3,7 @@ use Rattle.jlr_machine.specs.declared.machine.Machine.{Machine}
 use Rattle.jlr_machine.specs.Run.{empty}
 use Rattle.jlr_machine.specs.WellFormed.{IsWellFormed}
 use Rattle.jlr_laws.proofs.Empty.{empty_is_well_formed}
-use Rattle.jlr_plain_rows.proofs.tests.play.start.Goals as goal
+use Rattle.jlr_core_rows.proofs.tests.plain.play.start.Goals as goal
 
 pub returns : goal.returns
 returns c = elim c.empty_plain.result as (λ r. IfOk r (λ (m : Machine). m ≡ empty c.args.cells c.args.sessions c.args.resources)

@@ -3,7 +3,7 @@ use Rattle.jlr_machine.specs.declared.machine.Machine.{Machine}
 use Rattle.jlr_machine.specs.Run.{empty_from}
 use Rattle.jlr_machine.specs.WellFormed.{IsWellFormed}
 use Rattle.jlr_laws.proofs.Empty.{empty_from_is_well_formed}
-use Rattle.jlr_plain_rows.proofs.tests.play.late_start.Goals as goal
+use Rattle.jlr_core_rows.proofs.tests.plain.play.late_start.Goals as goal
 
 pub returns : goal.returns
 returns c = elim c.empty_plain_from.result as (λ r. IfOk r (λ (m : Machine). m ≡ empty_from 16 1 16 18446744073709551615)
