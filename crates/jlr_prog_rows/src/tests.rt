@@ -10,5 +10,6 @@ mod objects;
 mod player;
 mod references;
 mod scripts;
+mod session;
 mod settings;
 mod words;
