@@ -3,4 +3,5 @@ mod book;
 mod called_off;
 mod cuts;
 mod missing;
+mod server;
 mod turns;

@@ -1,4 +1,4 @@
-use Rattle.jlr_server_rows.proofs.tests.devices.are_served.Given as goal
+use Rattle.jlr_hall_rows.proofs.tests.server.devices.are_served.Given as goal
 
 -- the history that was just opened, and its limits
 abbrev pub ghosts-serve_over-L-Naming : goal.ghosts-serve_over-L-Naming

@@ -1,4 +1,4 @@
-use Rattle.jlr_server_rows.proofs.tests.seats.gated.Given as goal
+use Rattle.jlr_hall_rows.proofs.tests.server.seats.gated.Given as goal
 
 -- the history that was just opened, and its limits
 abbrev pub ghosts-two_sessions-L-Naming : goal.ghosts-two_sessions-L-Naming

@@ -1,4 +1,4 @@
-use Rattle.jlr_server_rows.proofs.tests.seats.by_the_end.Given as goal
+use Rattle.jlr_hall_rows.proofs.tests.server.seats.by_the_end.Given as goal
 
 -- the history that was just opened, and its limits
 abbrev pub ghosts-ended-L-Naming : goal.ghosts-ended-L-Naming
