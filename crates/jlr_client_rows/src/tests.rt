@@ -1,3 +1,4 @@
 //! Tests of the manual and of the client.
+mod command_line;
 mod lines;
 mod manual;
