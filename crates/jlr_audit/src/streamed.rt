@@ -13,12 +13,12 @@ use crate::verdict::Verdict;
 use crate::watch::Watch;
 use jlr_machine::entry::Entry;
 use jlr_machine::machine::Machine;
-use jlr_trace_fields::parts::record::Placed;
 use jlr_plain::advance::advance_plain;
 use jlr_plain_images::image::image_plain;
 use jlr_trace::file::TraceFault;
 use jlr_trace::streamed::{StreamedEntries, StreamedTrace};
 use jlr_trace::window::StreamFault;
+use jlr_trace_fields::parts::record::Placed;
 use std::alloc::{AllocError, Global};
 use std::io::Read;
 

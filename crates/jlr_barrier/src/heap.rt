@@ -15,12 +15,12 @@ ghost use Rattle.jlr_barrier.specs.Snapshots.{IsInHand, IsObject};
 
 use crate::lists::LISTS;
 use crate::shade::shade_value;
+use jlr_cells::objects::Objects;
 use jlr_cells::{Elements, Kind, Shape};
 use jlr_links::Links;
 use jlr_machine::object::{Object, Reference};
 use jlr_machine::table::Table;
 use jlr_marks::Marks;
-use jlr_cells::objects::Objects;
 use jlr_roots::{Names, Roots};
 use jlr_types::{FieldValue, Limits, Slot};
 use std::alloc::{AllocError, Global};

@@ -15,10 +15,10 @@ ghost use Rattle.jlr_barrier.specs.Snapshots.{RefersTo};
 ghost use Rattle.jlr_barrier.specs.Parts.{next_at, part_at, parts_of, place_after, ticks_at};
 ghost use Rattle.jlr_barrier.specs.Scans.{Scanned, awaits};
 
+use jlr_cells::objects::Objects;
 use jlr_cells::{Elements, Kind, Links, Visited};
 use jlr_machine::object::{CleanState, RefState, Reference};
 use jlr_marks::Marks;
-use jlr_cells::objects::Objects;
 use jlr_roots::{Names, Roots};
 use jlr_types::{FieldValue, Meter, Slot};
 

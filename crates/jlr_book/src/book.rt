@@ -17,11 +17,11 @@ use crate::entry::{
     is_refused, record, record_asked_end, record_briefly, record_end, take_up_answer,
 };
 use crate::event::{decline, is_end};
+use crate::image::image::Image;
 use crate::room::{AnswerRoom, EntryRoom};
 use jlr_cleaner::Job;
 use jlr_core::engine::Core;
 use jlr_event::event::{Event, Reply, ended};
-use crate::image::image::Image;
 use jlr_machine::ask::{Answer, Ask, Handed, Outcome};
 use jlr_machine::choice::Choice;
 use jlr_machine::data::{CopyRoom, Data};

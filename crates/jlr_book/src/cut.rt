@@ -7,9 +7,9 @@ ghost use Rattle.jlr_book.specs.Histories.{Ends};
 ghost use Rattle.jlr_book.specs.Rules.{GivesUp};
 ghost use Rattle.jlr_book.specs.Writing.{Stands};
 
+use crate::image::image::Image;
 use jlr_core::engine::Core;
 use jlr_event::event::{Event, Reply};
-use crate::image::image::Image;
 use jlr_machine::ask::{Answer, Ask};
 use jlr_machine::choice::Choice;
 use jlr_machine::entry::Entry;

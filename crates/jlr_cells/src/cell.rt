@@ -15,8 +15,8 @@ ghost use Rattle.jlr_cells.specs.Links.{links_of, no_links};
 use crate::elements::Elements;
 use crate::fields::Fields;
 use crate::shape::{Kind, Shape};
-use jlr_links::column::Blank;
 use jlr_links::Links as Lists;
+use jlr_links::column::Blank;
 use jlr_machine::object::{
     CleanState, Cleanable, Contents, Fields as PlainFields, Guard, Object, RefState, Reference,
 };

@@ -11,8 +11,10 @@ use Rattle.jlr_wire.specs.declared.command.Command.{Command}
 use Rattle.jlr_client.specs.declared.manual.form.Form.{Form}
 use Rattle.jlr_client.specs.declared.manual.form.Form.TheVariants as form
 use Rattle.jlr_client.specs.declared.manual.operand.Operand.{Operand}
-use Rattle.jlr_client.specs.declared.manual.operand.Operand.TheVariants.{Layout, Length, Object, Left, Right, Value, Reference}
-use Rattle.jlr_client.specs.declared.manual.operand.Operand.TheVariants.{Queue, Cleaner, Cleanable, Field, Integer, Note, Mode}
+use Rattle.jlr_client.specs.declared.manual.operand.Operand.TheVariants.{Layout, Length, Object, Left, Right, Value}
+use Rattle.jlr_client.specs.declared.manual.operand.Operand.TheVariants.{Reference}
+use Rattle.jlr_client.specs.declared.manual.operand.Operand.TheVariants.{Queue, Cleaner, Cleanable, Field, Integer}
+use Rattle.jlr_client.specs.declared.manual.operand.Operand.TheVariants.{Note, Mode}
 use Rattle.jlr_client.specs.declared.manual.operand.Operand.TheVariants.{Path, Count, Bytes, Name}
 
 -- the word of a form

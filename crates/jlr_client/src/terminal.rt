@@ -1,10 +1,10 @@
 //! A session from a terminal.
 use crate::help::help;
+use crate::manual::refusal::{phrase, refusal_said};
+use crate::manual::table::pages;
 use crate::typed::{Typed, meant};
 use jlr_command_line::fault::ProgramFault;
 use jlr_command_line::reason::Reason;
-use crate::manual::refusal::{phrase, refusal_said};
-use crate::manual::table::pages;
 use std::alloc::Global;
 use std::io::{BufRead, BufReader, Input, Write};
 use std::net::Shutdown;

@@ -7,15 +7,15 @@ ghost use Rattle.jlr_commands.specs.Audits.{IsStreamJudged, IsStreamDamage};
 
 use crate::history_file::{fault_of, opened};
 use crate::progress::Progress;
+use jlr_audit::explain::explainer::Explainer;
 use jlr_audit::streamed::audit_streamed;
 use jlr_audit::verdict::Verdict;
 use jlr_audit::watch::Watch;
 use jlr_command_line::arguments::AuditOrder;
 use jlr_command_line::fault::ProgramFault;
-use jlr_audit::explain::explainer::Explainer;
-use jlr_trace_fields::version::Version;
 use jlr_trace::streamed::{StreamedTrace, streamed_trace};
 use jlr_trace::window::StreamFault;
+use jlr_trace_fields::version::Version;
 use std::alloc::{AllocError, Global};
 use std::io::{Read, Write};
 

@@ -1,7 +1,7 @@
 //! The manual of the line protocol and the versions: `refheap commands`, `refheap version`.
+use jlr_client::manual::table::{pages, table};
 use jlr_command_line::arguments::no_command;
 use jlr_command_line::fault::ProgramFault;
-use jlr_client::manual::table::{pages, table};
 use std::alloc::Global;
 use std::io::Write;
 

@@ -8,13 +8,13 @@ ghost use Rattle.jlr_session.specs.Limits.{FindsEnd, most_bytes};
 ghost use Rattle.jlr_session.specs.declared.shell.SessionEnd.{SessionEnd as SessionEndOf};
 
 use crate::saved_file::{put, try_put};
+use crate::saving::file::trace_bytes_of;
 use crate::session::outcome_of;
 use jlr_command_line::fault::ProgramFault;
 use jlr_command_line::reason::{Place, Reason};
 use jlr_device::Device;
 use jlr_prog::Book;
 use jlr_prog::run::run_over;
-use crate::saving::file::trace_bytes_of;
 use jlr_session::shell::SessionEnd;
 use jlr_types::Limits;
 use std::alloc::{AllocError, Global};

@@ -1,11 +1,11 @@
 //! The figures of a saved history: `refheap stats FILE`.
 use crate::history_file::{fault_of, opened};
-use jlr_audit::verdict::Verdict;
-use jlr_command_line::arguments::StatsOrder;
-use jlr_command_line::fault::ProgramFault;
 use jlr_audit::stats::figures::{Figures, Judged, figures_of};
 use jlr_audit::stats::json::json_of;
 use jlr_audit::stats::table::table_of;
+use jlr_audit::verdict::Verdict;
+use jlr_command_line::arguments::StatsOrder;
+use jlr_command_line::fault::ProgramFault;
 use jlr_trace::streamed::streamed_trace;
 use jlr_trace::window::StreamFault;
 use std::alloc::{AllocError, Global};

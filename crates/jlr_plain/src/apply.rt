@@ -8,8 +8,8 @@ ghost use Rattle.jlr_plain.specs.Deciding.{carried_in, completed};
 ghost use Rattle.jlr_plain_asks.specs.Counts.{HaveRoom, HasNextAction, refuses};
 
 use crate::following::is_refusal;
-use jlr_machine::copies::copy_machine;
 use jlr_machine::ask::{Answer, Ask};
+use jlr_machine::copies::copy_machine;
 use jlr_machine::entry::Entry;
 use jlr_machine::items::Items;
 use jlr_machine::machine::Machine;

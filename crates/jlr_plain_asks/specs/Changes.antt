@@ -11,7 +11,8 @@ use Rattle.jlr_machine.specs.Objects.{set_at, empty_at, with_field, with_referen
 use Rattle.jlr_machine.specs.Lookups.{free_handle}
 use Rattle.jlr_machine.specs.Calls.{unreferred, spent, taken_up, delivered}
 use Rattle.jlr_plain_asks.specs.declared.changes.objects.Change.{Change}
-use Rattle.jlr_plain_asks.specs.declared.changes.objects.Change.TheVariants.{Set, Unrefer, Enqueue, Remove, DropFirst, Spend}
+use Rattle.jlr_plain_asks.specs.declared.changes.objects.Change.TheVariants.{Set, Unrefer, Enqueue, Remove, DropFirst}
+use Rattle.jlr_plain_asks.specs.declared.changes.objects.Change.TheVariants.{Spend}
 use Rattle.jlr_plain_asks.specs.declared.changes.objects.Change.TheVariants.{Line}
 use Rattle.jlr_plain_asks.specs.declared.changes.sessions.SessionChange.{SessionChange}
 use Rattle.jlr_plain_asks.specs.declared.changes.sessions.SessionChange.TheVariants.{Hold, Release, Call}

@@ -29,7 +29,8 @@ use Rattle.jlr_plain_images.specs.Resources.{resources_fit}
 use Rattle.jlr_plain_images.proofs.States.{spent_is, armed_is, unless_spent}
 use Rattle.jlr_plain_images.proofs.WorksDecided.{same_rid, no_rid, Decides-work, on_gives, closing_is, idle_is, found_resource}
 use Rattle.jlr_plain_images.proofs.WorksDecided.{Decides-resource}
-use Rattle.jlr_plain_images.proofs.Everywhere.{Decides-any, Decides-cleanables, Decides-rising, Decides-apart, Decides-number, Decides-found}
+use Rattle.jlr_plain_images.proofs.Everywhere.{Decides-any, Decides-cleanables, Decides-rising, Decides-apart, Decides-number}
+use Rattle.jlr_plain_images.proofs.Everywhere.{Decides-found}
 use Rattle.jlr_plain_images.proofs.Everywhere.{Decides-slots, Decides-on_guard, Decides-on_cleanable, there_gives, there_from}
 use Rattle.jlr_plain_images.proofs.Everywhere.{some_place_gives, some_place_from, also, turned}
 

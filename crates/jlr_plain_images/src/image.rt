@@ -7,15 +7,15 @@ ghost use Rattle.jlr_plain_images.specs.Places.{rising_by};
 ghost use Rattle.jlr_plain_images.specs.Images.{itself, seen_fits, rest_fits, IsRestFit};
 
 use crate::calls::are_calls;
-use crate::resources::are_resources;
-use crate::unnamed::are_private;
-use jlr_machine::machine::Machine;
 use crate::parts::actions::are_actions;
 use crate::parts::limits::is_within_limits;
 use crate::parts::lists::are_lists;
 use crate::parts::references::are_references;
 use crate::parts::sessions::are_sessions;
 use crate::parts::slots::are_slots_named;
+use crate::resources::are_resources;
+use crate::unnamed::are_private;
+use jlr_machine::machine::Machine;
 use jlr_types::Slot;
 
 fn all_later(slot: Slot, slots: &[Slot]) -> bool

@@ -4,11 +4,11 @@ ghost use Rattle.std.specs.Io.KnownBytes.{Appends, Consumes};
 ghost use Rattle.jlr_session.specs.Limits.{FindsEnd, most_bytes};
 ghost use Rattle.jlr_prog.specs.Histories.{IsSession};
 
+use crate::solo::Book;
+use crate::solo::solo::Solo;
 use jlr_device::Device;
 use jlr_session::serve::serve;
 use jlr_session::shell::SessionEnd;
-use crate::solo::Book;
-use crate::solo::solo::Solo;
 use jlr_types::Limits;
 use std::alloc::{AllocError, Global};
 use std::io::{Read, Write};

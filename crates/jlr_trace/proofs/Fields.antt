@@ -8,7 +8,8 @@ use Rattle.std.proofs.lemmas.Bool.{ltb-false, le-ltb}
 use Rattle.std.proofs.lemmas.List.{take-append-le, drop-append-le, length-append}
 use Rattle.jlr_trace_fields.specs.declared.fault.Fault.TheVariants.{Short, Range}
 use Rattle.jlr_trace_fields.specs.Spelling.{no_slot}
-use Rattle.jlr_trace_fields.specs.Reading.{Reader, ◌>>=◌, byte_at, byte_within_at, flag_at, option_at, number_at, number_within_at, picked_at}
+use Rattle.jlr_trace_fields.specs.Reading.{Reader, ◌>>=◌, byte_at, byte_within_at, flag_at, option_at, number_at, number_within_at}
+use Rattle.jlr_trace_fields.specs.Reading.{picked_at}
 use Rattle.jlr_trace_fields.specs.Reading.{value_at, text_at, bytes_at, taken_at, signed_at}
 use Rattle.jlr_trace.specs.Steady.{StillReads, IsSteady}
 use Rattle.jlr_trace.proofs.Steps.{made, never, then_read, either, one}

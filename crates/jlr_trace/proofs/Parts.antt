@@ -13,7 +13,8 @@ use Rattle.jlr_trace_fields.specs.Items.{items_at, may_follow}
 use Rattle.jlr_trace_fields.specs.Tables.{ref_kinds, ref_states, clean_states, faults, resource_states}
 use Rattle.jlr_trace_fields.specs.Objects.{value_behind, value_read, work_behind, work_read, typed, array, plain_read, array_read, array_in}
 use Rattle.jlr_trace_fields.specs.Objects.{reference_read, queue_read, cleanable_read, guard_read, object_behind, object_read}
-use Rattle.jlr_trace_fields.specs.Records.{binding_read, failure_read, call_behind, call_read, slot_after, job_behind, job_after, resource_behind}
+use Rattle.jlr_trace_fields.specs.Records.{binding_read, failure_read, call_behind, call_read, slot_after, job_behind, job_after}
+use Rattle.jlr_trace_fields.specs.Records.{resource_behind}
 use Rattle.jlr_trace_fields.specs.Records.{resource_after, placed_behind, placed_after, held_behind, held_after}
 use Rattle.jlr_trace.specs.Steady.{IsSteady}
 use Rattle.jlr_trace.proofs.Steps.{made, never, then_read, either, one, two, four}

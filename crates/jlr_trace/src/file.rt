@@ -13,15 +13,15 @@ ghost use Rattle.jlr_trace.specs.Faults.{IsFault};
 ghost use Rattle.jlr_trace.specs.ToEnd.{entries_to_end};
 ghost use Rattle.jlr_trace.specs.Versions.{fits_version_1, in_version};
 
-use jlr_trace_fields::cursor::take_u64;
-use jlr_trace_fields::fault::{Fault, ReadError};
-use jlr_trace_fields::version::Version;
 use jlr_machine::entry::Entry;
 use jlr_machine::items::Items;
 use jlr_machine::machine::Machine;
-use jlr_trace_fields::parts::record::Placed;
 use jlr_trace_entries::entry::take_entry;
 use jlr_trace_entries::image::{Image, take_image};
+use jlr_trace_fields::cursor::take_u64;
+use jlr_trace_fields::fault::{Fault, ReadError};
+use jlr_trace_fields::parts::record::Placed;
+use jlr_trace_fields::version::Version;
 use std::alloc::{AllocError, AllocFailed, Global};
 
 /// A history: what is at its head, and what happened from there on.

@@ -12,13 +12,13 @@ ghost use Rattle.jlr_trace.specs.Streams.{AreSoMany};
 
 use crate::file::{TraceFault, count_in, fault_of, image_in, mark_at};
 use crate::window::{StreamFault, Window};
-use jlr_trace_fields::version::Version;
 use jlr_machine::entry::Entry;
 use jlr_machine::items::Items;
 use jlr_machine::machine::Machine;
-use jlr_trace_fields::parts::record::Placed;
 use jlr_trace_entries::entry::take_entry;
 use jlr_trace_entries::image::Image;
+use jlr_trace_fields::parts::record::Placed;
+use jlr_trace_fields::version::Version;
 use std::alloc::Global;
 use std::io::{ErrorKind, Read};
 use std::marker::Model;

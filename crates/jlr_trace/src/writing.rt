@@ -7,13 +7,13 @@ ghost use Rattle.jlr_trace.specs.Files.{file_text, file_with, history_of, versio
 ghost use Rattle.jlr_trace.specs.Files.{HasSpelling};
 
 use crate::file::TraceFile;
-use jlr_trace_fields::number::put_u64;
-use jlr_trace_fields::version::Version;
 use jlr_machine::entry::Entry;
 use jlr_machine::machine::Machine;
-use jlr_trace_fields::parts::record::Placed;
 use jlr_trace_entries::entry::put_entry;
 use jlr_trace_entries::writing::put_image;
+use jlr_trace_fields::number::put_u64;
+use jlr_trace_fields::parts::record::Placed;
+use jlr_trace_fields::version::Version;
 use std::alloc::{AllocError, Global};
 
 fn put_entries(out: &mut Vec<u8>, version: Version, entries: &[Entry]) -> Result<(), AllocError>

@@ -22,12 +22,17 @@ use Rattle.jlr_trace_fields.proofs.TableLaws.{fault}
 use Rattle.jlr_trace_fields.proofs.Objects.{work}
 use Rattle.jlr_trace_fields.proofs.Records.{name, name_least, failure, failure_least}
 use Rattle.jlr_trace_entries.specs.declared.answers.tag.Tag.{Tag}
-use Rattle.jlr_trace_entries.specs.declared.answers.tag.Tag.TheVariants.{Done as TagDone, Handle as TagHandle, Truth as TagTruth, Int as TagInt}
-use Rattle.jlr_trace_entries.specs.declared.answers.tag.Tag.TheVariants.{Data as TagData, Wrote as TagWrote, Faulted as TagFaulted, Names as TagNames}
-use Rattle.jlr_trace_entries.specs.declared.answers.tag.Tag.TheVariants.{Notes as TagNotes, Faults as TagFaults, Stat as TagStat, Job as TagJob}
-use Rattle.jlr_trace_entries.specs.declared.answers.tag.Tag.TheVariants.{AlreadyDone as TagAlreadyDone, Prepared as TagPrepared, Out as TagOut}
+use Rattle.jlr_trace_entries.specs.declared.answers.tag.Tag.TheVariants.{Done as TagDone, Handle as TagHandle, Truth as TagTruth}
+use Rattle.jlr_trace_entries.specs.declared.answers.tag.Tag.TheVariants.{Int as TagInt}
+use Rattle.jlr_trace_entries.specs.declared.answers.tag.Tag.TheVariants.{Data as TagData, Wrote as TagWrote, Faulted as TagFaulted}
+use Rattle.jlr_trace_entries.specs.declared.answers.tag.Tag.TheVariants.{Names as TagNames}
+use Rattle.jlr_trace_entries.specs.declared.answers.tag.Tag.TheVariants.{Notes as TagNotes, Faults as TagFaults, Stat as TagStat}
+use Rattle.jlr_trace_entries.specs.declared.answers.tag.Tag.TheVariants.{Job as TagJob}
+use Rattle.jlr_trace_entries.specs.declared.answers.tag.Tag.TheVariants.{AlreadyDone as TagAlreadyDone, Prepared as TagPrepared}
+use Rattle.jlr_trace_entries.specs.declared.answers.tag.Tag.TheVariants.{Out as TagOut}
 use Rattle.jlr_trace_entries.specs.declared.answers.tag.Tag.TheVariants.{Handed as TagHanded, Refused as TagRefused}
-use Rattle.jlr_trace_entries.specs.Answers.{refusals, handings, handing_number, spelled_stat, StatFits, stat_read, spelled_answer, AnswerFits}
+use Rattle.jlr_trace_entries.specs.Answers.{refusals, handings, handing_number, spelled_stat, StatFits, stat_read, spelled_answer}
+use Rattle.jlr_trace_entries.specs.Answers.{AnswerFits}
 use Rattle.jlr_trace_entries.specs.Answers.{tags, body_of, answer_read}
 
 -- ---- Tables

@@ -34,20 +34,27 @@ use Rattle.jlr_trace_fields.proofs.Products.{two_again, three_again, four_again}
 use Rattle.jlr_trace_fields.proofs.TableLaws.{ref_kind, fault}
 use Rattle.jlr_trace_fields.proofs.Records.{name}
 use Rattle.jlr_trace_entries.specs.declared.asks.tag.Tag.{Tag}
-use Rattle.jlr_trace_entries.specs.declared.asks.tag.Tag.TheVariants.{Join as TagJoin, Leave as TagLeave, New as TagNew, Put as TagPut, Get as TagGet}
-use Rattle.jlr_trace_entries.specs.declared.asks.tag.Tag.TheVariants.{SetInt as TagSetInt, Int as TagInt, Dup as TagDup, Drop as TagDrop, Same as TagSame}
-use Rattle.jlr_trace_entries.specs.declared.asks.tag.Tag.TheVariants.{MakeRef as TagMakeRef, Deref as TagDeref, Refers as TagRefers, Clear as TagClear}
-use Rattle.jlr_trace_entries.specs.declared.asks.tag.Tag.TheVariants.{Enqueue as TagEnqueue, Enqueued as TagEnqueued, MakeQueue as TagMakeQueue}
+use Rattle.jlr_trace_entries.specs.declared.asks.tag.Tag.TheVariants.{Join as TagJoin, Leave as TagLeave, New as TagNew, Put as TagPut}
+use Rattle.jlr_trace_entries.specs.declared.asks.tag.Tag.TheVariants.{Get as TagGet}
+use Rattle.jlr_trace_entries.specs.declared.asks.tag.Tag.TheVariants.{SetInt as TagSetInt, Int as TagInt, Dup as TagDup, Drop as TagDrop}
+use Rattle.jlr_trace_entries.specs.declared.asks.tag.Tag.TheVariants.{Same as TagSame}
+use Rattle.jlr_trace_entries.specs.declared.asks.tag.Tag.TheVariants.{MakeRef as TagMakeRef, Deref as TagDeref, Refers as TagRefers}
+use Rattle.jlr_trace_entries.specs.declared.asks.tag.Tag.TheVariants.{Clear as TagClear}
+use Rattle.jlr_trace_entries.specs.declared.asks.tag.Tag.TheVariants.{Enqueue as TagEnqueue, Enqueued as TagEnqueued}
+use Rattle.jlr_trace_entries.specs.declared.asks.tag.Tag.TheVariants.{MakeQueue as TagMakeQueue}
 use Rattle.jlr_trace_entries.specs.declared.asks.tag.Tag.TheVariants.{Poll as TagPoll, Remove as TagRemove, MakeCleaner as TagMakeCleaner}
 use Rattle.jlr_trace_entries.specs.declared.asks.tag.Tag.TheVariants.{Register as TagRegister, Clean as TagClean, Prepare as TagPrepare}
 use Rattle.jlr_trace_entries.specs.declared.asks.tag.Tag.TheVariants.{Opened as TagOpened, CheckOut as TagCheckOut, CheckIn as TagCheckIn}
-use Rattle.jlr_trace_entries.specs.declared.asks.tag.Tag.TheVariants.{Close as TagClose, Finish as TagFinish, Bind as TagBind, Find as TagFind}
-use Rattle.jlr_trace_entries.specs.declared.asks.tag.Tag.TheVariants.{Unbind as TagUnbind, Names as TagNames, Full as TagFull, Stat as TagStat}
+use Rattle.jlr_trace_entries.specs.declared.asks.tag.Tag.TheVariants.{Close as TagClose, Finish as TagFinish, Bind as TagBind}
+use Rattle.jlr_trace_entries.specs.declared.asks.tag.Tag.TheVariants.{Find as TagFind}
+use Rattle.jlr_trace_entries.specs.declared.asks.tag.Tag.TheVariants.{Unbind as TagUnbind, Names as TagNames, Full as TagFull}
+use Rattle.jlr_trace_entries.specs.declared.asks.tag.Tag.TheVariants.{Stat as TagStat}
 use Rattle.jlr_trace_entries.specs.declared.asks.tag.Tag.TheVariants.{Notes as TagNotes, Faults as TagFaults, HandOver as TagHandOver}
 use Rattle.jlr_trace_entries.specs.declared.asks.tag.Tag.TheVariants.{TakeUp as TagTakeUp, Begin as TagBegin, Collect as TagCollect}
 use Rattle.jlr_trace_entries.specs.declared.asks.tag.Tag.TheVariants.{Abandon as TagAbandon, Array as TagArray}
 use Rattle.jlr_trace_entries.specs.Asks.{outcomes, outcome_number, modes, mode_number, spelled_kind, spelled_layout, kind_read, layout_read}
-use Rattle.jlr_trace_entries.specs.Asks.{spelled_call_outcome, CallOutcomeFits, call_outcome_behind, call_outcome_read, spelled_field, FieldFits}
+use Rattle.jlr_trace_entries.specs.Asks.{spelled_call_outcome, CallOutcomeFits, call_outcome_behind, call_outcome_read, spelled_field}
+use Rattle.jlr_trace_entries.specs.Asks.{FieldFits}
 use Rattle.jlr_trace_entries.specs.Asks.{field_read, spelled_ask, AskFits, tags, array_read, body_of, ask_read}
 
 -- ---- Tables

@@ -16,7 +16,8 @@ use Rattle.jlr_trace_fields.proofs.Numbers.{two_bytes, four_bytes, eight_bytes, 
 use Rattle.jlr_trace_fields.proofs.Basics.{within, number_within, flag, option}
 use Rattle.jlr_trace_fields.proofs.Lists.{list_field, items_take, items_again}
 use Rattle.jlr_trace_fields.proofs.Rising.{rising_field}
-use Rattle.jlr_trace_fields.proofs.Products.{then_takes, made_takes, three_takes, four_takes, five_takes, then_again, three_again, four_again}
+use Rattle.jlr_trace_fields.proofs.Products.{then_takes, made_takes, three_takes, four_takes, five_takes, then_again, three_again}
+use Rattle.jlr_trace_fields.proofs.Products.{four_again}
 use Rattle.jlr_trace_fields.proofs.Products.{five_again}
 use Rattle.jlr_trace_fields.proofs.Records.{binding, binding_least, failure, failure_least, call, rising_job, job_least, rising_resource}
 use Rattle.jlr_trace_fields.proofs.Records.{resource_least, rising_placed, placed_least, rising_held, held_least}
@@ -25,8 +26,10 @@ use Rattle.jlr_trace_entries.specs.declared.image.Head.{Head}
 use Rattle.jlr_trace_entries.specs.declared.image.Waiting.{Waiting}
 use Rattle.jlr_trace_entries.specs.declared.image.Records.{Records}
 use Rattle.jlr_trace_entries.specs.declared.image.Counts.{Counts}
-use Rattle.jlr_trace_entries.specs.Images.{spelled_head, HeadFits, made_head, head_read, SessionText, spelled_session, JoinedFits, SessionFits}
-use Rattle.jlr_trace_entries.specs.Images.{made_session, joined_read, session_read, spelled_waiting, WaitingFits, waiting_read, spelled_records}
+use Rattle.jlr_trace_entries.specs.Images.{spelled_head, HeadFits, made_head, head_read, SessionText, spelled_session, JoinedFits}
+use Rattle.jlr_trace_entries.specs.Images.{SessionFits}
+use Rattle.jlr_trace_entries.specs.Images.{made_session, joined_read, session_read, spelled_waiting, WaitingFits, waiting_read}
+use Rattle.jlr_trace_entries.specs.Images.{spelled_records}
 use Rattle.jlr_trace_entries.specs.Images.{RecordsFit, records_read, spelled_counts, CountsFit, counts_read, spelled_image, ImageFits}
 use Rattle.jlr_trace_entries.specs.Images.{made_image, image_behind, image_read}
 

@@ -11,7 +11,8 @@ use Rattle.jlr_machine.specs.Objects.{Table}
 use Rattle.jlr_trace_fields.specs.declared.parts.record.Placed.{Placed}
 use Rattle.jlr_trace_fields.specs.declared.parts.record.Held.{Held}
 use Rattle.jlr_trace_entries.specs.declared.image.Image.{Image}
-use Rattle.jlr_trace_entries.specs.Images.{SessionText, listed_from, placed, held, session_text, ImageText, image_text, places_of, HasPlaces}
+use Rattle.jlr_trace_entries.specs.Images.{SessionText, listed_from, placed, held, session_text, ImageText, image_text, places_of}
+use Rattle.jlr_trace_entries.specs.Images.{HasPlaces}
 use Rattle.jlr_trace_entries.specs.Images.{HasShape}
 
 -- ---- A list and the length of its table tell the table, and what stands behind with keys of no place

@@ -14,7 +14,8 @@ use Rattle.jlr_machine.specs.declared.ask.Answer.{Answer}
 use Rattle.jlr_machine.specs.declared.ask.Answer.TheVariants.{Done, Handle, Truth, Int, Data, Wrote, Faulted, Names}
 use Rattle.jlr_machine.specs.declared.ask.Answer.TheVariants.{Notes, Faults, Stat, Job, AlreadyDone, Prepared, Out}
 use Rattle.jlr_machine.specs.declared.ask.Answer.TheVariants.{Handed, Refused}
-use Rattle.jlr_trace_fields.specs.Spelling.{spelled_flag, spelled_32, spelled_64, spelled_signed, spelled_text, IsSigned}
+use Rattle.jlr_trace_fields.specs.Spelling.{spelled_flag, spelled_32, spelled_64, spelled_signed, spelled_text}
+use Rattle.jlr_trace_fields.specs.Spelling.{IsSigned}
 use Rattle.jlr_trace_fields.specs.Spelling.{IsText, IsWithin}
 use Rattle.jlr_trace_fields.specs.Reading.{Reader, ◌>>=◌, one_field, two_fields, five_fields, byte_at, byte_within_at}
 use Rattle.jlr_trace_fields.specs.Reading.{number_at, signed_at, flag_at, picked_at, bytes_at, text_at, is_name_byte}
@@ -23,12 +24,18 @@ use Rattle.jlr_trace_fields.specs.Tables.{faults, fault_number}
 use Rattle.jlr_trace_fields.specs.Objects.{spelled_work, WorkFits, work_read}
 use Rattle.jlr_trace_fields.specs.Records.{NameFits, spelled_failure, FailureFits, failure_read}
 use Rattle.jlr_trace_entries.specs.declared.answers.tag.Tag.{Tag}
-use Rattle.jlr_trace_entries.specs.declared.answers.tag.Tag.TheVariants.{Done as TagDone, Handle as TagHandle, Truth as TagTruth}
-use Rattle.jlr_trace_entries.specs.declared.answers.tag.Tag.TheVariants.{Int as TagInt, Data as TagData, Wrote as TagWrote}
-use Rattle.jlr_trace_entries.specs.declared.answers.tag.Tag.TheVariants.{Faulted as TagFaulted, Names as TagNames, Notes as TagNotes}
-use Rattle.jlr_trace_entries.specs.declared.answers.tag.Tag.TheVariants.{Faults as TagFaults, Stat as TagStat, Job as TagJob}
-use Rattle.jlr_trace_entries.specs.declared.answers.tag.Tag.TheVariants.{AlreadyDone as TagAlreadyDone, Prepared as TagPrepared}
-use Rattle.jlr_trace_entries.specs.declared.answers.tag.Tag.TheVariants.{Out as TagOut, Handed as TagHanded, Refused as TagRefused}
+use Rattle.jlr_trace_entries.specs.declared.answers.tag.Tag.TheVariants.{Done as TagDone, Handle as TagHandle}
+use Rattle.jlr_trace_entries.specs.declared.answers.tag.Tag.TheVariants.{Truth as TagTruth}
+use Rattle.jlr_trace_entries.specs.declared.answers.tag.Tag.TheVariants.{Int as TagInt, Data as TagData}
+use Rattle.jlr_trace_entries.specs.declared.answers.tag.Tag.TheVariants.{Wrote as TagWrote}
+use Rattle.jlr_trace_entries.specs.declared.answers.tag.Tag.TheVariants.{Faulted as TagFaulted, Names as TagNames}
+use Rattle.jlr_trace_entries.specs.declared.answers.tag.Tag.TheVariants.{Notes as TagNotes}
+use Rattle.jlr_trace_entries.specs.declared.answers.tag.Tag.TheVariants.{Faults as TagFaults, Stat as TagStat}
+use Rattle.jlr_trace_entries.specs.declared.answers.tag.Tag.TheVariants.{Job as TagJob}
+use Rattle.jlr_trace_entries.specs.declared.answers.tag.Tag.TheVariants.{AlreadyDone as TagAlreadyDone}
+use Rattle.jlr_trace_entries.specs.declared.answers.tag.Tag.TheVariants.{Prepared as TagPrepared}
+use Rattle.jlr_trace_entries.specs.declared.answers.tag.Tag.TheVariants.{Out as TagOut, Handed as TagHanded}
+use Rattle.jlr_trace_entries.specs.declared.answers.tag.Tag.TheVariants.{Refused as TagRefused}
 
 -- ---- Tables
 

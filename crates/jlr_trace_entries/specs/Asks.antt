@@ -34,19 +34,28 @@ use Rattle.jlr_trace_fields.specs.Records.{NameFits}
 use Rattle.jlr_trace_entries.specs.declared.asks.tag.Tag.{Tag}
 use Rattle.jlr_trace_entries.specs.declared.asks.tag.Tag.TheVariants.{Join as TagJoin, Leave as TagLeave, New as TagNew}
 use Rattle.jlr_trace_entries.specs.declared.asks.tag.Tag.TheVariants.{Put as TagPut, Get as TagGet, SetInt as TagSetInt}
-use Rattle.jlr_trace_entries.specs.declared.asks.tag.Tag.TheVariants.{Int as TagInt, Dup as TagDup, Drop as TagDrop, Same as TagSame}
-use Rattle.jlr_trace_entries.specs.declared.asks.tag.Tag.TheVariants.{MakeRef as TagMakeRef, Deref as TagDeref, Refers as TagRefers}
+use Rattle.jlr_trace_entries.specs.declared.asks.tag.Tag.TheVariants.{Int as TagInt, Dup as TagDup, Drop as TagDrop}
+use Rattle.jlr_trace_entries.specs.declared.asks.tag.Tag.TheVariants.{Same as TagSame}
+use Rattle.jlr_trace_entries.specs.declared.asks.tag.Tag.TheVariants.{MakeRef as TagMakeRef, Deref as TagDeref}
+use Rattle.jlr_trace_entries.specs.declared.asks.tag.Tag.TheVariants.{Refers as TagRefers}
 use Rattle.jlr_trace_entries.specs.declared.asks.tag.Tag.TheVariants.{Clear as TagClear, Enqueue as TagEnqueue}
-use Rattle.jlr_trace_entries.specs.declared.asks.tag.Tag.TheVariants.{Enqueued as TagEnqueued, MakeQueue as TagMakeQueue}
+use Rattle.jlr_trace_entries.specs.declared.asks.tag.Tag.TheVariants.{Enqueued as TagEnqueued}
+use Rattle.jlr_trace_entries.specs.declared.asks.tag.Tag.TheVariants.{MakeQueue as TagMakeQueue}
 use Rattle.jlr_trace_entries.specs.declared.asks.tag.Tag.TheVariants.{Poll as TagPoll, Remove as TagRemove}
-use Rattle.jlr_trace_entries.specs.declared.asks.tag.Tag.TheVariants.{MakeCleaner as TagMakeCleaner, Register as TagRegister}
-use Rattle.jlr_trace_entries.specs.declared.asks.tag.Tag.TheVariants.{Clean as TagClean, Prepare as TagPrepare, Opened as TagOpened}
+use Rattle.jlr_trace_entries.specs.declared.asks.tag.Tag.TheVariants.{MakeCleaner as TagMakeCleaner}
+use Rattle.jlr_trace_entries.specs.declared.asks.tag.Tag.TheVariants.{Register as TagRegister}
+use Rattle.jlr_trace_entries.specs.declared.asks.tag.Tag.TheVariants.{Clean as TagClean, Prepare as TagPrepare}
+use Rattle.jlr_trace_entries.specs.declared.asks.tag.Tag.TheVariants.{Opened as TagOpened}
 use Rattle.jlr_trace_entries.specs.declared.asks.tag.Tag.TheVariants.{CheckOut as TagCheckOut, CheckIn as TagCheckIn}
-use Rattle.jlr_trace_entries.specs.declared.asks.tag.Tag.TheVariants.{Close as TagClose, Finish as TagFinish, Bind as TagBind}
-use Rattle.jlr_trace_entries.specs.declared.asks.tag.Tag.TheVariants.{Find as TagFind, Unbind as TagUnbind, Names as TagNames}
-use Rattle.jlr_trace_entries.specs.declared.asks.tag.Tag.TheVariants.{Full as TagFull, Stat as TagStat, Notes as TagNotes}
+use Rattle.jlr_trace_entries.specs.declared.asks.tag.Tag.TheVariants.{Close as TagClose, Finish as TagFinish}
+use Rattle.jlr_trace_entries.specs.declared.asks.tag.Tag.TheVariants.{Bind as TagBind}
+use Rattle.jlr_trace_entries.specs.declared.asks.tag.Tag.TheVariants.{Find as TagFind, Unbind as TagUnbind}
+use Rattle.jlr_trace_entries.specs.declared.asks.tag.Tag.TheVariants.{Names as TagNames}
+use Rattle.jlr_trace_entries.specs.declared.asks.tag.Tag.TheVariants.{Full as TagFull, Stat as TagStat}
+use Rattle.jlr_trace_entries.specs.declared.asks.tag.Tag.TheVariants.{Notes as TagNotes}
 use Rattle.jlr_trace_entries.specs.declared.asks.tag.Tag.TheVariants.{Faults as TagFaults, HandOver as TagHandOver}
-use Rattle.jlr_trace_entries.specs.declared.asks.tag.Tag.TheVariants.{TakeUp as TagTakeUp, Begin as TagBegin, Collect as TagCollect}
+use Rattle.jlr_trace_entries.specs.declared.asks.tag.Tag.TheVariants.{TakeUp as TagTakeUp, Begin as TagBegin}
+use Rattle.jlr_trace_entries.specs.declared.asks.tag.Tag.TheVariants.{Collect as TagCollect}
 use Rattle.jlr_trace_entries.specs.declared.asks.tag.Tag.TheVariants.{Abandon as TagAbandon, Array as TagArray}
 
 -- ---- Tables

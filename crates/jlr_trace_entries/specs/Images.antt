@@ -8,14 +8,17 @@ use Rattle.jlr_machine.specs.declared.machine.Call.{Call}
 use Rattle.jlr_machine.specs.declared.machine.Session.{Session}
 use Rattle.jlr_machine.specs.declared.machine.Machine.{Machine}
 use Rattle.jlr_trace_fields.specs.declared.version.Version.{Version}
-use Rattle.jlr_trace_fields.specs.Spelling.{spelled_8, spelled_16, spelled_32, spelled_64, spelled_option, IsWithin, SlotFits}
-use Rattle.jlr_trace_fields.specs.Reading.{Reader, ◌>>=◌, three_fields, four_fields, five_fields, byte_within_at, number_at}
+use Rattle.jlr_trace_fields.specs.Spelling.{spelled_8, spelled_16, spelled_32, spelled_64, spelled_option, IsWithin}
+use Rattle.jlr_trace_fields.specs.Spelling.{SlotFits}
+use Rattle.jlr_trace_fields.specs.Reading.{Reader, ◌>>=◌, three_fields, four_fields, five_fields, byte_within_at}
+use Rattle.jlr_trace_fields.specs.Reading.{number_at}
 use Rattle.jlr_trace_fields.specs.Reading.{number_within_at, flag_at, option_at}
 use Rattle.jlr_trace_fields.specs.Items.{items_at, list_at, rising_at, spelled_list, IsListed, IsRising}
 use Rattle.jlr_trace_fields.specs.declared.parts.record.Placed.{Placed}
 use Rattle.jlr_trace_fields.specs.declared.parts.record.Held.{Held}
 use Rattle.jlr_trace_fields.specs.Records.{spelled_binding, BindingFits, binding_read, spelled_failure, FailureFits}
-use Rattle.jlr_trace_fields.specs.Records.{failure_read, spelled_call, CallFits, call_read, spelled_job, JobFits, job_after}
+use Rattle.jlr_trace_fields.specs.Records.{failure_read, spelled_call, CallFits, call_read, spelled_job, JobFits}
+use Rattle.jlr_trace_fields.specs.Records.{job_after}
 use Rattle.jlr_trace_fields.specs.Records.{spelled_resource, ResourceFits, resource_after, spelled_placed, PlacedFits}
 use Rattle.jlr_trace_fields.specs.Records.{placed_after, spelled_held, HeldFits, held_after}
 use Rattle.jlr_trace_entries.specs.declared.image.Head.{Head}

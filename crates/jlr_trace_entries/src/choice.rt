@@ -7,13 +7,13 @@ ghost use Rattle.jlr_trace_entries.specs.Choices.{itself, collected_read, collec
 ghost use Rattle.jlr_trace_entries.specs.Choices.{flags_of as flags_of_choice, spelled_collection, CollectionCounts};
 ghost use Rattle.jlr_trace_entries.specs.Choices.{spelled_fresh, spelled_choice, ChoiceCounts};
 
-use jlr_trace_fields::cursor::take_within;
-use jlr_trace_fields::fault::ReadError;
-use jlr_trace_fields::number::put_u8;
 use jlr_machine::entry::{Chosen, Collected};
 use jlr_machine::fresh::FreshSlots;
 use jlr_machine::items::Items;
 use jlr_machine::kept::KeptSlots;
+use jlr_trace_fields::cursor::take_within;
+use jlr_trace_fields::fault::ReadError;
+use jlr_trace_fields::number::put_u8;
 use jlr_trace_fields::parts::items::{put_each, put_list, take_items, take_list};
 use jlr_trace_fields::parts::rising::take_rising;
 use jlr_types::Slot;

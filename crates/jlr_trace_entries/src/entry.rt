@@ -3,16 +3,16 @@ ghost use Rattle.std.specs.Prelude.{◌≡◌, ◌++◌, OnOk};
 ghost use Rattle.jlr_trace_fields.specs.Reading.{Reads};
 ghost use Rattle.jlr_trace_entries.specs.Entries.{entry_read, spelled_entry, EntryCounts};
 
-use crate::choice::{choice_at, put_choice};
 use crate::answers::reading::take_answer;
 use crate::answers::writing::put_answer;
 use crate::asks::reading::take_ask;
 use crate::asks::writing::put_ask;
+use crate::choice::{choice_at, put_choice};
+use jlr_machine::entry::Entry;
 use jlr_trace_fields::cursor::take_u8;
 use jlr_trace_fields::fault::ReadError;
 use jlr_trace_fields::number::put_u8;
 use jlr_trace_fields::version::Version;
-use jlr_machine::entry::Entry;
 use std::alloc::{AllocError, Global};
 
 /// An entry from the front of the bytes, which are then those behind it.

@@ -10,17 +10,17 @@ ghost use Rattle.jlr_trace_entries.specs.Images.{made_image, image_behind, image
 ghost use Rattle.std.specs.List.{AllByRecursion};
 
 use crate::places::{Objects, held_places, objects_at};
+use jlr_machine::items::Items;
+use jlr_machine::machine::{Binding, Failure, Job, Machine, Resource, Session};
+use jlr_machine::table::Table;
 use jlr_trace_fields::cursor::{
     take_flag, take_option, take_u16_within, take_u32, take_u64, take_within,
 };
 use jlr_trace_fields::fault::{Fault, ReadError};
-use jlr_trace_fields::version::Version;
-use jlr_machine::items::Items;
-use jlr_machine::machine::{Binding, Failure, Job, Machine, Resource, Session};
-use jlr_machine::table::Table;
 use jlr_trace_fields::parts::items::take_list;
 use jlr_trace_fields::parts::record::{Placed, take_call};
 use jlr_trace_fields::parts::rising::take_rising;
+use jlr_trace_fields::version::Version;
 use jlr_types::Slot;
 use std::alloc::Global;
 

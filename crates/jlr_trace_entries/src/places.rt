@@ -6,13 +6,13 @@ ghost use Rattle.jlr_trace_fields.specs.Records.{placed_after};
 ghost use Rattle.std.specs.List.{AllByRecursion};
 ghost use Rattle.jlr_trace_entries.specs.Images.{listed_from, placed, held, places_of};
 
-use jlr_trace_fields::cursor::take_u32;
-use jlr_trace_fields::fault::{Fault, ReadError};
-use jlr_trace_fields::version::Version;
 use jlr_machine::items::Items;
 use jlr_machine::object::Object;
 use jlr_machine::table::Table;
+use jlr_trace_fields::cursor::take_u32;
+use jlr_trace_fields::fault::{Fault, ReadError};
 use jlr_trace_fields::parts::record::{Held, Placed, take_placed};
+use jlr_trace_fields::version::Version;
 use jlr_types::Slot;
 use std::alloc::{AllocError, Global};
 

@@ -10,10 +10,10 @@ ghost use Rattle.jlr_trace_entries.specs.Images.{image_text, spelled_image, whol
 ghost use Rattle.jlr_trace_entries.specs.Writing.{spelled_place, PlaceCounts, SessionCounts, spelled_handles};
 ghost use Rattle.jlr_trace_entries.specs.Writing.{spelled_objects, spelled_session_of, MachineCounts, ImageCounts};
 
-use jlr_trace_fields::number::{put_option, put_slot, put_u8, put_u16, put_u32, put_u64};
 use jlr_machine::machine::{Machine, Session};
 use jlr_machine::object::Object;
 use jlr_machine::table::Table;
+use jlr_trace_fields::number::{put_option, put_slot, put_u8, put_u16, put_u32, put_u64};
 use jlr_trace_fields::parts::items::{put_each, put_list};
 use jlr_trace_fields::parts::record::{Placed, put_call, put_placed};
 use jlr_types::Slot;

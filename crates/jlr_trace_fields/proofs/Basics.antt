@@ -9,9 +9,11 @@ use Rattle.std.proofs.lemmas.Int.{ints, to_z-of_z, of_z-to_z}
 use Rattle.std.proofs.lemmas.List.{take_at, drop_at, take-append-drop, length-append, length-take}
 use Rattle.jlr_trace_fields.specs.declared.fault.Fault.{Fault}
 use Rattle.jlr_trace_fields.specs.declared.fault.Fault.TheVariants.{Short, Range}
-use Rattle.jlr_trace_fields.specs.Reading.{byte_at, byte_within_at, flag_at, option_at, number_at, number_within_at, picked_at, value_at, text_at}
+use Rattle.jlr_trace_fields.specs.Reading.{byte_at, byte_within_at, flag_at, option_at, number_at, number_within_at, picked_at, value_at}
+use Rattle.jlr_trace_fields.specs.Reading.{text_at}
 use Rattle.jlr_trace_fields.specs.Reading.{bytes_at, taken_at, signed_at}
-use Rattle.jlr_trace_fields.specs.Spelling.{spelled_8, spelled_32, spelled_flag, spelled_option, spelled_signed, spelled_text, no_slot, IsBytes}
+use Rattle.jlr_trace_fields.specs.Spelling.{spelled_8, spelled_32, spelled_flag, spelled_option, spelled_signed, spelled_text, no_slot}
+use Rattle.jlr_trace_fields.specs.Spelling.{IsBytes}
 use Rattle.jlr_trace_fields.specs.Spelling.{IsWithin, IsSigned, SlotFits, IsText, IsTextOf}
 use Rattle.jlr_trace_fields.specs.Laws.{Takes, TakesSpelled, ReadsAgain, IsField}
 use Rattle.jlr_trace_fields.proofs.Steps.{IsBytes-drop, IsBytes-take, bind_ok, ok_is, guard_ok}

@@ -19,8 +19,10 @@ use Rattle.jlr_trace_fields.proofs.Basics.{byte, within, number_within, flag, op
 use Rattle.jlr_trace_fields.proofs.Lists.{items_take, items_again, list_field}
 use Rattle.jlr_trace_fields.proofs.Products.{then_takes, made_takes, one_takes, two_takes, four_takes, then_again, one_again, two_again}
 use Rattle.jlr_trace_fields.proofs.Products.{four_again}
-use Rattle.jlr_trace_fields.specs.Objects.{spelled_value, ValueFits, value_behind, value_read, spelled_work, WorkFits, work_behind, work_read}
-use Rattle.jlr_trace_fields.specs.Objects.{spelled_object, ElementsFit, ObjectFits, typed, plain_read, array, array_read, array_in, reference_read}
+use Rattle.jlr_trace_fields.specs.Objects.{spelled_value, ValueFits, value_behind, value_read, spelled_work, WorkFits, work_behind}
+use Rattle.jlr_trace_fields.specs.Objects.{work_read}
+use Rattle.jlr_trace_fields.specs.Objects.{spelled_object, ElementsFit, ObjectFits, typed, plain_read, array, array_read, array_in}
+use Rattle.jlr_trace_fields.specs.Objects.{reference_read}
 use Rattle.jlr_trace_fields.specs.Objects.{queue_read, cleanable_read, guard_read, object_behind, object_read}
 use Rattle.jlr_trace_fields.proofs.TableLaws.{ref_kind, ref_state, clean_state}
 

@@ -28,7 +28,8 @@ use Rattle.jlr_trace_fields.specs.declared.parts.record.Held.{Held}
 use Rattle.jlr_trace_fields.specs.Tables.{resource_state_number}
 use Rattle.jlr_trace_fields.specs.Objects.{spelled_object, spelled_work}
 use Rattle.jlr_trace_fields.specs.Records.{NameFits, spelled_binding, BindingFits, binding_read, spelled_failure, FailureFits, failure_read}
-use Rattle.jlr_trace_fields.specs.Records.{spelled_call, CallFits, call_behind, call_read, slot_after, spelled_job, JobFits, job_behind, job_after}
+use Rattle.jlr_trace_fields.specs.Records.{spelled_call, CallFits, call_behind, call_read, slot_after, spelled_job, JobFits, job_behind}
+use Rattle.jlr_trace_fields.specs.Records.{job_after}
 use Rattle.jlr_trace_fields.specs.Records.{spelled_resource, ResourceFits, resource_behind, resource_after, spelled_placed, PlacedFits}
 use Rattle.jlr_trace_fields.specs.Records.{placed_behind, placed_after, spelled_held, HeldFits, held_behind, held_after}
 use Rattle.jlr_trace_fields.proofs.TableLaws.{resource_state, fault}

@@ -17,7 +17,8 @@ use Rattle.jlr_machine.specs.declared.object.Guard.{Guard as GuardOf}
 use Rattle.jlr_trace_fields.specs.declared.fault.Fault.TheVariants.{Range}
 use Rattle.jlr_trace_fields.specs.declared.version.Version.{Version}
 use Rattle.jlr_trace_fields.specs.declared.version.Version.TheVariants.{One, Two}
-use Rattle.jlr_trace_fields.specs.Spelling.{spelled_8, spelled_16, spelled_32, spelled_64, spelled_signed, spelled_option}
+use Rattle.jlr_trace_fields.specs.Spelling.{spelled_8, spelled_16, spelled_32, spelled_64, spelled_signed}
+use Rattle.jlr_trace_fields.specs.Spelling.{spelled_option}
 use Rattle.jlr_trace_fields.specs.Spelling.{IsSigned, IsWithin, SlotFits}
 use Rattle.jlr_trace_fields.specs.Reading.{Reader, ◌>>=◌, one_field, two_fields, four_fields, byte_at, byte_within_at}
 use Rattle.jlr_trace_fields.specs.Reading.{number_at, number_within_at, signed_at, flag_at, option_at, picked_at}

@@ -17,7 +17,8 @@ use Rattle.jlr_trace_fields.specs.Items.{may_follow}
 use Rattle.jlr_trace_fields.specs.declared.parts.record.Placed.{Placed}
 use Rattle.jlr_trace_fields.specs.declared.parts.record.Held.{Held}
 use Rattle.jlr_trace_fields.specs.Tables.{faults, fault_number, resource_states, resource_state_number}
-use Rattle.jlr_trace_fields.specs.Objects.{spelled_object, ObjectFits, ObjectCounts, object_read, spelled_work, WorkFits}
+use Rattle.jlr_trace_fields.specs.Objects.{spelled_object, ObjectFits, ObjectCounts, object_read, spelled_work}
+use Rattle.jlr_trace_fields.specs.Objects.{WorkFits}
 use Rattle.jlr_trace_fields.specs.Objects.{work_read}
 
 abbrev pub NameFits : List ℕ → Type 0

@@ -3,7 +3,8 @@ ghost use Rattle.std.specs.Prelude.{◌≡◌, ◌≤◌, ◌++◌, IfOk, OnOk};
 ghost use Rattle.std.specs.Int.{w16, w32, w64};
 ghost use Rattle.jlr_trace_fields.specs.Spelling.{spelled_8, spelled_16, spelled_32, spelled_64, spelled_signed};
 ghost use Rattle.jlr_trace_fields.specs.Spelling.{spelled_flag, spelled_option};
-ghost use Rattle.jlr_trace_fields.specs.Reading.{Gives, byte_at, number_at, number_within_at, signed_at, byte_within_at};
+ghost use Rattle.jlr_trace_fields.specs.Reading.{Gives, byte_at, number_at, number_within_at, signed_at};
+ghost use Rattle.jlr_trace_fields.specs.Reading.{byte_within_at};
 ghost use Rattle.jlr_trace_fields.specs.Reading.{flag_at, option_at, picked_at};
 
 use crate::fault::{Fault, ReadError};

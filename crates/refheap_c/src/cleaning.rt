@@ -5,10 +5,10 @@ ghost use Rattle.jlr_embed.specs.Tells.{fault_numbered, outcome_numbered};
 ghost use Rattle.jlr_embed.specs.Ways.{Adopts, Ends, EndsCarrying, GivesHandle, GivesJob, GivesToken, IsOutOfRange};
 ghost use Rattle.refheap_c.specs.Layouts.{call_outcome};
 
-use jlr_event::event::Event;
 use jlr_embed::handle::out::Taken;
 use jlr_embed::handle::status::RANGE;
 use jlr_embed::handle::{Heap, calls, tell};
+use jlr_event::event::Event;
 use jlr_machine::ask::{Ask, CallOutcome, Outcome};
 use jlr_machine::text::WriteCount;
 use jlr_types::{ActionNo, Handle, Mutator};

@@ -4,9 +4,9 @@ ghost use Rattle.jlr_embed.specs.Calls.{HandsOver, Marks};
 ghost use Rattle.jlr_embed.specs.Tells.{TellsHanded, TellsProgress};
 ghost use Rattle.jlr_embed.specs.Ways.{Ends, GivesCounts, GivesFailure, GivesNote, GivesTruth};
 
-use jlr_event::event::Event;
 use jlr_embed::handle::out::{Counts, Failed};
 use jlr_embed::handle::{Heap, calls};
+use jlr_event::event::Event;
 use jlr_machine::ask::{Ask, FullMode};
 use jlr_types::Mutator;
 use std::alloc::Global;

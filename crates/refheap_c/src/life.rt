@@ -4,8 +4,8 @@ ghost use Rattle.jlr_types.specs.Ranges.{first_fault};
 ghost use Rattle.jlr_embed.specs.Calls.{Opens, TellsLimit};
 ghost use Rattle.jlr_embed.specs.Ways.{Ends};
 
-use jlr_event::event::Event;
 use jlr_embed::handle::{Heap, calls, open};
+use jlr_event::event::Event;
 use jlr_machine::ask::Ask;
 use jlr_types::Mutator;
 use std::alloc::Global;

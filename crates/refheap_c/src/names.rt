@@ -3,9 +3,9 @@ ghost use Rattle.std.specs.Prelude.{◌≡◌, ◌⊎◌, false, true};
 ghost use Rattle.jlr_machine.specs.Names.{is_name};
 ghost use Rattle.jlr_embed.specs.Ways.{Ends, GivesHandle, GivesName, IsOutOfRange};
 
-use jlr_event::event::Event;
 use jlr_embed::handle::status::RANGE;
 use jlr_embed::handle::{Heap, calls};
+use jlr_event::event::Event;
 use jlr_machine::ask::Ask;
 use jlr_machine::text::Name;
 use jlr_types::{Handle, Mutator};

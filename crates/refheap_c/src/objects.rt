@@ -4,9 +4,9 @@ ghost use Rattle.jlr_embed.specs.Ways.{Ends, GivesHandle, GivesInteger, GivesTru
 ghost use Rattle.refheap_c.specs.Layouts.{layout_of};
 
 use crate::layout::layout;
-use jlr_event::event::Event;
 use jlr_embed::handle::status::RANGE;
 use jlr_embed::handle::{Heap, calls};
+use jlr_event::event::Event;
 use jlr_machine::ask::Ask;
 use jlr_types::{FieldNo, Handle, Length, Mutator};
 use std::alloc::Global;

@@ -2,8 +2,8 @@
 ghost use Rattle.std.specs.Prelude.{◌≡◌};
 ghost use Rattle.jlr_embed.specs.Ways.{Ends, GivesHandle, GivesTruth};
 
-use jlr_event::event::Event;
 use jlr_embed::handle::{Heap, calls};
+use jlr_event::event::Event;
 use jlr_machine::ask::Ask;
 use jlr_types::{Handle, Mutator, RefKind};
 use std::alloc::Global;

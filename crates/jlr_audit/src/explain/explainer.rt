@@ -6,8 +6,8 @@ use crate::explain::history::{image_said, said_of};
 use crate::watch::Watch;
 use jlr_machine::entry::Entry;
 use jlr_machine::machine::Machine;
-use jlr_trace_fields::parts::record::Placed;
 use jlr_plain::entry::legal_plain;
+use jlr_trace_fields::parts::record::Placed;
 use std::alloc::{AllocError, Global};
 
 /// Watches an audit for why a history is not legal. Each entry is judged once more for it.

@@ -6,8 +6,8 @@ use crate::explain::asks::{answer_said, ask_said};
 use crate::explain::rules::rule_broken;
 use jlr_machine::entry::Entry;
 use jlr_machine::machine::Machine;
-use jlr_trace_fields::parts::record::Placed;
 use jlr_plain_images::image::image_plain;
+use jlr_trace_fields::parts::record::Placed;
 use std::alloc::{AllocError, Global};
 
 /// What is wrong with an entry where it stands.

@@ -1,8 +1,8 @@
 //! Figures of histories whose bytes are given.
-use jlr_audit::verdict::Verdict;
 use jlr_audit::stats::figures::{Judged, figures_of};
 use jlr_audit::stats::json::json_of;
 use jlr_audit::stats::table::table_of;
+use jlr_audit::verdict::Verdict;
 use jlr_trace::streamed::streamed_trace;
 use std::alloc::Global;
 use std::test::Fail;

@@ -2,8 +2,8 @@
 use super::changes::decoded;
 use super::player::{Telling, are_told, play_rows};
 use super::verdicts::fault_text;
-use jlr_trace_fields::version::Version;
 use jlr_trace::file::read_trace;
+use jlr_trace_fields::version::Version;
 use std::alloc::{AllocError, Global};
 use std::test::Fail;
 

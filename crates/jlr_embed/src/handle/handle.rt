@@ -2,8 +2,8 @@
 ghost use Rattle.std.specs.Prelude.{◌≡◌, MatchOption, None, Option, Some, ℕ};
 ghost use Rattle.jlr_core.specs.Cores.{Kept};
 
-use crate::handle::loose::Loose;
 use crate::Embedded;
+use crate::handle::loose::Loose;
 use std::alloc::Global;
 use std::marker::Model;
 use std::mem;

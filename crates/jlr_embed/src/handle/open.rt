@@ -4,9 +4,9 @@ ghost use Rattle.jlr_types.specs.Ranges.{first_fault};
 ghost use Rattle.jlr_core.specs.Steps.{IsEmpty};
 ghost use Rattle.jlr_embed.specs.Calls.{Opens, TellsLimit};
 
+use crate::Embedded;
 use crate::handle::handle::Heap;
 use crate::handle::status::limit;
-use crate::Embedded;
 use jlr_types::Limits;
 use std::alloc::{AllocError, Global};
 

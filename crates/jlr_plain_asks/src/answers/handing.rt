@@ -4,10 +4,10 @@ ghost use Rattle.jlr_machine.specs.Objects.{is_lined, some_and};
 ghost use Rattle.jlr_machine.specs.Lookups.{cleanable_at};
 ghost use Rattle.jlr_machine.specs.Calls.{handed_reference, handed_cleanable, handed, from_lined};
 
+use crate::lookups::cleanable_in;
 use jlr_machine::ask::Handed;
 use jlr_machine::machine::Machine;
 use jlr_machine::object::{CleanState, Object, RefState};
-use crate::lookups::cleanable_in;
 use jlr_types::Slot;
 
 fn step_for_reference(state: RefState) -> Handed

@@ -15,15 +15,15 @@ use crate::answers::answers::{
     is_job, is_names, is_notes, is_outcome, is_stat, is_truth,
 };
 use crate::answers::handing::{line_from, step_for};
-use jlr_machine::ask::{Answer, Ask, Handed, Outcome, Stat};
-use jlr_machine::machine::{Machine, Session};
-use jlr_machine::object::{Cleanable, RefState};
 use crate::given::given_by;
 use crate::lookups::{
     cleanable_in, cleanable_of, guarded_cleanable, named_field, named_guard, named_object,
     named_reference, named_slot, object_at, occupied_cells, queue_of, session_of,
 };
 use crate::refusals::is_spent_state;
+use jlr_machine::ask::{Answer, Ask, Handed, Outcome, Stat};
+use jlr_machine::machine::{Machine, Session};
+use jlr_machine::object::{Cleanable, RefState};
 use jlr_types::{FieldNo, FieldValue, Handle, Mutator, Slot};
 
 /// The lowest free number from 1 on.

@@ -18,14 +18,12 @@ use crate::changes::objects::{Change, change_in};
 use crate::changes::queues::{enqueue, hand_over, hold, poll_for};
 use crate::changes::sessions::{SessionChange, change_seat, new_session, put_seat};
 use crate::changes::takes::{clean_by, take_line};
+use crate::given::given_by;
+use crate::lookups::{cleanable_in, guarded_cleanable, named_guard, named_slot, running_job};
 use jlr_machine::ask::{Answer, Ask, Outcome};
 use jlr_machine::items::Items;
 use jlr_machine::machine::Machine;
 use jlr_machine::text::Name;
-use crate::given::given_by;
-use crate::lookups::{
-    cleanable_in, guarded_cleanable, named_guard, named_slot, running_job,
-};
 use jlr_types::{ActionNo, FieldNo, FieldValue, Handle, Mutator, Slot};
 use std::alloc::{AllocError, Global};
 

@@ -8,13 +8,13 @@ use crate::changes::lists::{job_removed, last_with};
 use crate::changes::objects::{Change, change_in};
 use crate::changes::queues::hold;
 use crate::changes::takes::{move_resource, put_in_call, remove_resource, remove_work};
+use crate::lookups::{guard_of, object_at, session_of};
+use crate::operands::CLEANER;
 use jlr_machine::ask::Outcome;
 use jlr_machine::copy::copy_slice;
 use jlr_machine::items::Items;
 use jlr_machine::machine::{Call, Failure, Job, Machine, ResourceState};
 use jlr_machine::object::Guard;
-use crate::lookups::{guard_of, object_at, session_of};
-use crate::operands::CLEANER;
 use jlr_types::{Fault, Mutator, Slot, Work};
 use std::alloc::{AllocError, Global};
 

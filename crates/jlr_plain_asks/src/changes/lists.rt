@@ -3,10 +3,10 @@ ghost use Rattle.std.specs.Prelude.{◌≡◌, ◌==◌, ◌++◌, ◌∷◌, []
 ghost use Rattle.jlr_machine.specs.declared.machine.Resource.{Resource as ResourceOf};
 ghost use Rattle.jlr_machine.specs.Lookups.{bound, unbound, with_job, without_job, with_resource, last_256};
 
+use crate::lookups::names_agree;
 use jlr_machine::copy::copy_slice;
 use jlr_machine::machine::{Binding, Job, Resource, ResourceState};
 use jlr_machine::text::Name;
-use crate::lookups::names_agree;
 use jlr_types::{ActionNo, Rid, Slot};
 use std::alloc::{AllocError, Global};
 

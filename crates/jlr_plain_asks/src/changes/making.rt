@@ -15,13 +15,13 @@ use crate::changes::lists::resource_added;
 use crate::changes::objects::put_place;
 use crate::changes::queues::hold;
 use crate::changes::takes::put_in_call;
+use crate::lookups::named_slot;
 use jlr_machine::ask::{Answer, Ask};
 use jlr_machine::items::Items;
 use jlr_machine::machine::{Call, Machine, Resource, ResourceState};
 use jlr_machine::object::{
     CleanState, Cleanable, Contents, Elements, Fields, Guard, Object, RefState, Reference,
 };
-use crate::lookups::named_slot;
 use jlr_types::{
     ActionNo, FieldKind, FieldValue, Handle, Layout, Length, Mutator, RefKind, Rid, Slot, Work,
 };

@@ -5,12 +5,12 @@ ghost use Rattle.jlr_machine.specs.Objects.{at, as_reference, queue_ahead};
 ghost use Rattle.jlr_machine.specs.Calls.{with_given, enqueued, polled, poll_given, delivered, handed, handed_over};
 ghost use Rattle.jlr_plain_asks.specs.Changes.{delivered_if};
 
+use crate::answers::handing::step_for;
 use crate::changes::objects::{Change, append, change_in, drop_first};
 use crate::changes::sessions::{SessionChange, change_seat};
+use crate::lookups::{named_slot, object_at, queue_of, reference_of};
 use jlr_machine::ask::Handed;
 use jlr_machine::machine::Machine;
-use crate::answers::handing::step_for;
-use crate::lookups::{named_slot, object_at, queue_of, reference_of};
 use jlr_types::{Handle, Mutator, Slot};
 use std::alloc::{AllocError, Global};
 

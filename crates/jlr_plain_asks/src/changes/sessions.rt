@@ -5,9 +5,9 @@ ghost use Rattle.jlr_machine.specs.Lookups.{with_session};
 ghost use Rattle.jlr_machine.specs.Calls.{fresh_session};
 ghost use Rattle.jlr_plain_asks.specs.Changes.{session_change_of};
 
+use crate::answers::replies::free_handle_of;
 use jlr_machine::machine::{Call as CallOf, Machine, Session};
 use jlr_machine::table::Table;
-use crate::answers::replies::free_handle_of;
 use jlr_types::{Handle, Mutator, Slot};
 use std::alloc::{AllocError, Global};
 use std::mem::replace;

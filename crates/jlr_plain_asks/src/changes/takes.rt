@@ -5,16 +5,16 @@ ghost use Rattle.jlr_machine.specs.Calls.{with_work_state, without_work_resource
 ghost use Rattle.jlr_machine.specs.Calls.{line_taken};
 ghost use Rattle.jlr_plain_asks.specs.Changes.{taken_by_cleaner};
 
+use crate::answers::handing::line_from;
 use crate::changes::lists::{job_added, resource_moved, resource_removed};
 use crate::changes::objects::{Change, change_in, drop_first};
 use crate::changes::sessions::{SessionChange, change_seat};
-use jlr_machine::items::Items;
-use jlr_machine::machine::{Call, Job, Machine, ResourceState};
-use jlr_machine::object::Cleanable;
-use crate::answers::handing::line_from;
 use crate::lookups::cleanable_in;
 use crate::operands::CLEANER;
 use crate::refusals::is_spent_state;
+use jlr_machine::items::Items;
+use jlr_machine::machine::{Call, Job, Machine, ResourceState};
+use jlr_machine::object::Cleanable;
 use jlr_types::{Mutator, Rid, Slot, Work};
 use std::alloc::{AllocError, Global};
 

@@ -4,10 +4,10 @@ ghost use Rattle.jlr_trace_fields.specs.Spelling.{spelled_8};
 ghost use Rattle.jlr_trace_fields.specs.Reading.{Reads, picked_at};
 ghost use Rattle.jlr_trace_entries.specs.Answers.{refusals, handings, handing_number, stat_read, spelled_stat};
 
+use jlr_machine::ask::{Handed, Stat};
 use jlr_trace_fields::cursor::{take_picked, take_u64};
 use jlr_trace_fields::fault::ReadError;
 use jlr_trace_fields::number::{put_u8, put_u64};
-use jlr_machine::ask::{Handed, Stat};
 use jlr_types::Refusal;
 use std::alloc::AllocError;
 

@@ -1,23 +1,26 @@
 //! Reads answers.
 ghost use Rattle.std.specs.Prelude.{◌≡◌};
 ghost use Rattle.jlr_trace_fields.specs.Reading.{Reads};
-ghost use Rattle.jlr_trace_entries.specs.declared.answers.tag.Tag.TheVariants.{Handle as TagHandle, Truth as TagTruth, Int as TagInt};
+ghost use Rattle.jlr_trace_entries.specs.declared.answers.tag.Tag.TheVariants.{Handle as TagHandle, Truth as TagTruth};
+ghost use Rattle.jlr_trace_entries.specs.declared.answers.tag.Tag.TheVariants.{Int as TagInt};
 ghost use Rattle.jlr_trace_entries.specs.declared.answers.tag.Tag.TheVariants.{Data as TagData, Wrote as TagWrote};
-ghost use Rattle.jlr_trace_entries.specs.declared.answers.tag.Tag.TheVariants.{Faulted as TagFaulted, Names as TagNames};
+ghost use Rattle.jlr_trace_entries.specs.declared.answers.tag.Tag.TheVariants.{Faulted as TagFaulted};
+ghost use Rattle.jlr_trace_entries.specs.declared.answers.tag.Tag.TheVariants.{Names as TagNames};
 ghost use Rattle.jlr_trace_entries.specs.declared.answers.tag.Tag.TheVariants.{Notes as TagNotes, Faults as TagFaults};
 ghost use Rattle.jlr_trace_entries.specs.declared.answers.tag.Tag.TheVariants.{Stat as TagStat, Job as TagJob};
 ghost use Rattle.jlr_trace_entries.specs.declared.answers.tag.Tag.TheVariants.{Prepared as TagPrepared, Out as TagOut};
-ghost use Rattle.jlr_trace_entries.specs.declared.answers.tag.Tag.TheVariants.{Handed as TagHanded, Refused as TagRefused};
+ghost use Rattle.jlr_trace_entries.specs.declared.answers.tag.Tag.TheVariants.{Handed as TagHanded};
+ghost use Rattle.jlr_trace_entries.specs.declared.answers.tag.Tag.TheVariants.{Refused as TagRefused};
 ghost use Rattle.jlr_trace_entries.specs.Answers.{answer_read, body_of};
 
 use crate::answers::detail::{handed_at, refusal_at, stat_at};
 use crate::answers::tag::{Tag, tag_at};
+use jlr_machine::ask::Answer;
+use jlr_machine::text::WriteCount;
 use jlr_trace_fields::cursor::{
     take_action, take_data, take_flag, take_handle, take_i64, take_rid, take_within,
 };
 use jlr_trace_fields::fault::ReadError;
-use jlr_machine::ask::Answer;
-use jlr_machine::text::WriteCount;
 use jlr_trace_fields::parts::items::take_list;
 use jlr_trace_fields::parts::object::take_work;
 use jlr_trace_fields::parts::tables::take_fault;

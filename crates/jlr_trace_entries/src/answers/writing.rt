@@ -5,12 +5,12 @@ ghost use Rattle.jlr_trace_fields.specs.Objects.{spelled_work};
 ghost use Rattle.jlr_trace_entries.specs.Answers.{spelled_answer, AnswerCounts};
 
 use crate::answers::detail::{put_handed, put_stat};
-use jlr_trace_fields::number::{put_flag, put_i64, put_u8, put_u32, put_u64};
-use jlr_trace_fields::text::put_text;
 use jlr_machine::ask::Answer;
+use jlr_trace_fields::number::{put_flag, put_i64, put_u8, put_u32, put_u64};
 use jlr_trace_fields::parts::items::put_list;
 use jlr_trace_fields::parts::object::put_work;
 use jlr_trace_fields::parts::tables::put_fault;
+use jlr_trace_fields::text::put_text;
 use jlr_types::{ActionNo, Work};
 use std::alloc::AllocError;
 

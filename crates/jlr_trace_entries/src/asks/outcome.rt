@@ -5,13 +5,13 @@ ghost use Rattle.jlr_trace_fields.specs.Reading.{Reads, picked_at};
 ghost use Rattle.jlr_trace_entries.specs.Asks.{outcomes, outcome_number, modes, mode_number, call_outcome_read};
 ghost use Rattle.jlr_trace_entries.specs.Asks.{spelled_call_outcome};
 
+use jlr_machine::ask::{CallOutcome, FullMode, Outcome};
+use jlr_machine::text::WriteCount;
 use jlr_trace_fields::cursor::{take_data, take_picked, take_u8, take_within};
 use jlr_trace_fields::fault::{Fault as ByteFault, ReadError};
 use jlr_trace_fields::number::put_u8;
-use jlr_trace_fields::text::put_text;
-use jlr_machine::ask::{CallOutcome, FullMode, Outcome};
-use jlr_machine::text::WriteCount;
 use jlr_trace_fields::parts::tables::{put_fault, take_fault};
+use jlr_trace_fields::text::put_text;
 use jlr_types::Fault;
 use std::alloc::{AllocError, Global};
 

@@ -7,7 +7,8 @@ ghost use Rattle.jlr_machine.specs.declared.ask.Ask.TheVariants.{Enqueued, MakeQ
 ghost use Rattle.jlr_machine.specs.declared.ask.Ask.TheVariants.{Register, Clean, Prepare, Opened, CheckOut, CheckIn};
 ghost use Rattle.jlr_machine.specs.declared.ask.Ask.TheVariants.{Close, Finish, Bind, Find, Unbind, Names, Full, Stat};
 ghost use Rattle.jlr_machine.specs.declared.ask.Ask.TheVariants.{Notes, Faults};
-ghost use Rattle.jlr_trace_fields.specs.Reading.{Reads, one_field, two_fields, three_fields, four_fields, byte_at, number_at};
+ghost use Rattle.jlr_trace_fields.specs.Reading.{Reads, one_field, two_fields, three_fields, four_fields, byte_at};
+ghost use Rattle.jlr_trace_fields.specs.Reading.{number_at};
 ghost use Rattle.jlr_trace_fields.specs.Reading.{signed_at, picked_at, text_at, is_name_byte};
 ghost use Rattle.jlr_trace_fields.specs.Tables.{ref_kinds};
 ghost use Rattle.jlr_trace_entries.specs.Asks.{outcomes, modes, layout_read, call_outcome_read, field_read, array_read};
@@ -17,13 +18,13 @@ use crate::asks::field::{field_at, length_at};
 use crate::asks::layout::layout_at;
 use crate::asks::outcome::{call_outcome_at, mode_at, outcome_at};
 use crate::asks::tag::{Tag, tag_at};
+use jlr_machine::ask::Ask;
 use jlr_trace_fields::cursor::{
     take_action, take_handle, take_i64, take_mutator, take_name, take_u8, take_u32,
 };
 use jlr_trace_fields::fault::{Fault, ReadError};
-use jlr_trace_fields::version::Version;
-use jlr_machine::ask::Ask;
 use jlr_trace_fields::parts::tables::take_ref_kind;
+use jlr_trace_fields::version::Version;
 use std::alloc::Global;
 
 fn join_at(bytes: &mut &[u8]) -> Result<Ask, ReadError>

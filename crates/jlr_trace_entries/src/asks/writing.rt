@@ -6,11 +6,11 @@ ghost use Rattle.jlr_trace_entries.specs.Asks.{outcome_number, spelled_field, Fi
 use crate::asks::field::{put_field, put_length};
 use crate::asks::layout::put_layout;
 use crate::asks::outcome::{put_call_outcome, put_mode, put_outcome};
+use jlr_machine::ask::{Ask, Outcome};
 use jlr_trace_fields::number::{put_i64, put_u8, put_u32, put_u64};
+use jlr_trace_fields::parts::tables::put_ref_kind;
 use jlr_trace_fields::text::put_text;
 use jlr_trace_fields::version::Version;
-use jlr_machine::ask::{Ask, Outcome};
-use jlr_trace_fields::parts::tables::put_ref_kind;
 use jlr_types::{ActionNo, FieldNo, Handle, Mutator};
 use std::alloc::AllocError;
 

@@ -3,21 +3,23 @@ ghost use Rattle.std.specs.Prelude.{◌≡◌, ◌≤◌, ◌∷◌, ◌++◌, O
 ghost use Rattle.std.specs.List.{flat_map};
 ghost use Rattle.jlr_trace_fields.specs.Reading.{Reads};
 ghost use Rattle.jlr_trace_fields.specs.Spelling.{spelled_16, spelled_option};
-ghost use Rattle.jlr_trace_fields.specs.Objects.{value_read, spelled_value, work_read, spelled_work, plain_read, array_read};
-ghost use Rattle.jlr_trace_fields.specs.Objects.{array_in as array_of, reference_read, queue_read, cleanable_read, guard_read};
+ghost use Rattle.jlr_trace_fields.specs.Objects.{value_read, spelled_value, work_read, spelled_work, plain_read};
+ghost use Rattle.jlr_trace_fields.specs.Objects.{array_read};
+ghost use Rattle.jlr_trace_fields.specs.Objects.{array_in as array_of, reference_read, queue_read, cleanable_read};
+ghost use Rattle.jlr_trace_fields.specs.Objects.{guard_read};
 ghost use Rattle.jlr_trace_fields.specs.Objects.{object_read, spelled_contents, spelled_object, spelled_reference};
 ghost use Rattle.jlr_trace_fields.specs.Objects.{spelled_cleanable, ObjectCounts};
 
-use crate::parts::items::{Item, Written, put_each, put_list, take_items, take_list};
-use crate::parts::tables::{
-    put_clean_state, put_ref_kind, put_ref_state, take_clean_state, take_ref_kind, take_ref_state,
-};
 use crate::cursor::{
     take_action, take_flag, take_i64, take_option, take_rid, take_slot, take_u8, take_u16_within,
     take_u32, take_within,
 };
 use crate::fault::{Fault, ReadError};
 use crate::number::{put_i64, put_option, put_slot, put_u8, put_u16, put_u32, put_u64};
+use crate::parts::items::{Item, Written, put_each, put_list, take_items, take_list};
+use crate::parts::tables::{
+    put_clean_state, put_ref_kind, put_ref_state, take_clean_state, take_ref_kind, take_ref_state,
+};
 use crate::version::Version;
 use jlr_machine::object::{Cleanable, Contents, Elements, Fields, Guard, Object, Reference};
 use jlr_types::{FieldValue, Slot, Work};

@@ -5,15 +5,13 @@ ghost use Rattle.jlr_trace_fields.specs.Spelling.{spelled_32};
 ghost use Rattle.jlr_trace_fields.specs.Objects.{ObjectCounts, spelled_object};
 ghost use Rattle.jlr_trace_fields.specs.Records.{call_read, spelled_call, placed_after};
 
+use crate::cursor::{take_action, take_handle, take_name, take_rid, take_slot, take_u8, take_u32};
+use crate::fault::{Fault, ReadError};
+use crate::number::{put_slot, put_u8, put_u32, put_u64};
 use crate::parts::items::{Item, Written};
 use crate::parts::object::{object_at, put_object, put_work, take_work};
 use crate::parts::rising::{Keyed, follows};
 use crate::parts::tables::{put_fault, put_resource_state, take_fault, take_resource_state};
-use crate::cursor::{
-    take_action, take_handle, take_name, take_rid, take_slot, take_u8, take_u32,
-};
-use crate::fault::{Fault, ReadError};
-use crate::number::{put_slot, put_u8, put_u32, put_u64};
 use crate::text::put_text;
 use crate::version::Version;
 use jlr_machine::machine::{Binding, Call, Failure, Job, Resource};

@@ -1,9 +1,9 @@
 //! A row is an event in words, as `jlr_words` reads them, or a reply. What it tells, with the resource that it carries
 //! behind `with`, is written in words again, and has to be the row; where it is something else, that stands behind an
 //! arrow. Each operand of a row is another number, so that none can stand for another.
-use jlr_machine::copies::copy_ask;
 use jlr_event::event::{Event, Reply};
 use jlr_machine::ask::{Answer, Ask};
+use jlr_machine::copies::copy_ask;
 use std::alloc::{AllocError, Global};
 use std::test::Fail;
 

@@ -5,14 +5,14 @@ use jlr_machine::object::{CleanState, Cleanable, Contents, Fields, Object, RefSt
 use jlr_machine::table::Table;
 use jlr_plain_images::calls::are_calls;
 use jlr_plain_images::image::{image_plain, well_formed_plain};
-use jlr_plain_images::resources::are_resources;
-use jlr_plain_images::unnamed::are_private;
 use jlr_plain_images::parts::actions::are_actions;
 use jlr_plain_images::parts::limits::is_within_limits;
 use jlr_plain_images::parts::lists::are_lists;
 use jlr_plain_images::parts::references::are_references;
 use jlr_plain_images::parts::sessions::are_sessions;
 use jlr_plain_images::parts::slots::are_slots_named;
+use jlr_plain_images::resources::are_resources;
+use jlr_plain_images::unnamed::are_private;
 use jlr_types::{ActionNo, RefKind, Rid, Slot, Work};
 use std::alloc::{AllocError, Global};
 use std::test::Fail;

@@ -4,8 +4,8 @@ ghost use Rattle.jlr_machine.specs.WellFormed.{IsWellFormed};
 
 use super::entries::entry_of;
 use super::same::same_machine;
-use jlr_machine::copies::copy_machine;
 use jlr_machine::ask::{Answer, Ask};
+use jlr_machine::copies::copy_machine;
 use jlr_machine::entry::{Chosen, Entry};
 use jlr_machine::machine::Machine;
 use jlr_machine::text::Name;
