@@ -61,7 +61,7 @@ pub fn refusal_said(line: &[u8]) -> Option<Refusal>
 }
 
 /// What stands beside a line in the list of the lines of refusals.
-#[tactic(auto, unfolding(crate::manual::specs::Lines::refusal_in))]
+#[tactic(auto, unfolding(crate::specs::Lines::refusal_in))]
 fn beside(line: &[u8]) -> Option<Refusal>
     ensures { result ≡ refusal_in line.now }
 {

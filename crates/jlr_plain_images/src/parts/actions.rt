@@ -211,7 +211,7 @@ fn actions_tested(machine: &Machine) -> bool
 
 /// Whether the actions of unspent cleanables and running jobs are distinct, each action was given out, only Armed
 /// cleanables have a referent, at most one job is the cleaner's, and the counts fit.
-#[tactic(auto, using(crate::parts::proofs::ActionsDecided::actions_decided))]
+#[tactic(auto, using(crate::proofs::ActionsDecided::actions_decided))]
 pub fn are_actions(machine: &Machine) -> bool
     ensures { IsTrue result ↔ AreActions machine.now }
 {

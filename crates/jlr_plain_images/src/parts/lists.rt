@@ -124,7 +124,7 @@ fn lists_tested(machine: &Machine) -> bool
 
 /// Whether the pending list and the line hold, once each, what has to wait there, and beside that only what no longer
 /// has to.
-#[tactic(auto, using(crate::parts::proofs::ListsDecided::lists_decided))]
+#[tactic(auto, using(crate::proofs::ListsDecided::lists_decided))]
 pub fn are_lists(machine: &Machine) -> bool
     ensures { IsTrue result ↔ AreLists machine.now }
 {

@@ -112,7 +112,7 @@ fn references_tested(machine: &Machine) -> bool
 
 /// Whether each reference has what its state says, and each queue has just Queued references as members, each of them
 /// in no other queue.
-#[tactic(auto, using(crate::parts::proofs::ReferencesDecided::references_decided))]
+#[tactic(auto, using(crate::proofs::ReferencesDecided::references_decided))]
 pub fn are_references(machine: &Machine) -> bool
     ensures { IsTrue result ↔ AreReferences machine.now }
 {

@@ -63,7 +63,7 @@ fn sessions_tested(machine: &Machine) -> bool
 }
 
 /// Whether each mutator has its 250 handles and room for what it opens, and the names are distinct and at most 256.
-#[tactic(auto, using(crate::parts::proofs::SessionsDecided::sessions_decided))]
+#[tactic(auto, using(crate::proofs::SessionsDecided::sessions_decided))]
 pub fn are_sessions(machine: &Machine) -> bool
     ensures { IsTrue result ↔ AreSessions machine.now }
 {

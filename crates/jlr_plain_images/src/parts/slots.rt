@@ -184,7 +184,7 @@ fn slots_tested(machine: &Machine) -> bool
 
 /// Whether each slot that is named by an object or as a root is an object, each queue of a reference a queue, and what
 /// each guard names a cleanable.
-#[tactic(auto, using(crate::parts::proofs::SlotsDecided::slots_decided))]
+#[tactic(auto, using(crate::proofs::SlotsDecided::slots_decided))]
 pub fn are_slots_named(machine: &Machine) -> bool
     ensures { IsTrue result ↔ AreSlotsNamed machine.now }
 {

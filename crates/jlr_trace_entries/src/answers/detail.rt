@@ -65,7 +65,7 @@ pub(crate) fn put_handed(out: &mut Vec<u8>, handed: Handed) -> Result<(), AllocE
 }
 
 /// The machine's counts.
-#[tactic(auto, unfolding(crate::answers::specs::Answers::stat_read))]
+#[tactic(auto, unfolding(crate::specs::Answers::stat_read))]
 pub(crate) fn stat_at(bytes: &mut &[u8]) -> Result<Stat, ReadError>
     ensures { Reads (λ x. x) result bytes.new.now (stat_read bytes.old.now) }
 {

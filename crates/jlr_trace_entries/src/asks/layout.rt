@@ -11,7 +11,7 @@ use jlr_trace_fields::number::put_u8;
 use jlr_types::{FieldKind, Layout};
 use std::alloc::AllocError;
 
-#[tactic(auto, unfolding(crate::asks::specs::Asks::kind_read))]
+#[tactic(auto, unfolding(crate::specs::Asks::kind_read))]
 fn kind_at(bytes: &mut &[u8]) -> Result<FieldKind, ReadError>
     ensures { Reads (λ x. x) result bytes.new.now (kind_read bytes.old.now) }
 {
@@ -38,7 +38,7 @@ fn kinds_at(count: u8, bytes: &mut &[u8]) -> Result<Layout, ReadError>
 }
 
 /// A layout of at most eight fields.
-#[tactic(auto, unfolding(crate::asks::specs::Asks::layout_read))]
+#[tactic(auto, unfolding(crate::specs::Asks::layout_read))]
 pub(crate) fn layout_at(bytes: &mut &[u8]) -> Result<Layout, ReadError>
     ensures { Reads (λ x. x) result bytes.new.now (layout_read bytes.old.now) }
 {

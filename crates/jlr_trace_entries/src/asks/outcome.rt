@@ -39,7 +39,7 @@ pub(crate) fn put_outcome(out: &mut Vec<u8>, outcome: Outcome) -> Result<(), All
 }
 
 /// How a call on a resource ended.
-#[tactic(auto, unfolding(crate::asks::specs::Asks::call_outcome_read))]
+#[tactic(auto, unfolding(crate::specs::Asks::call_outcome_read))]
 pub(crate) fn call_outcome_at(alloc: Global, bytes: &mut &[u8]) -> Result<CallOutcome, ReadError>
     ensures { Reads (λ x. x) result bytes.new.now (call_outcome_read bytes.old.now) }
 {

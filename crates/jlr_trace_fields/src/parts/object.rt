@@ -26,7 +26,7 @@ use jlr_types::{FieldValue, Slot, Work};
 use std::alloc::{AllocError, Global};
 
 /// What a cleaning action does.
-#[tactic(auto, unfolding(crate::parts::specs::Objects::work_read))]
+#[tactic(auto, unfolding(crate::specs::Objects::work_read))]
 pub fn take_work(bytes: &mut &[u8]) -> Result<Work, ReadError>
     ensures { Reads (λ x. x) result bytes.new.now (work_read bytes.old.now) }
 {
@@ -55,7 +55,7 @@ pub fn put_work(out: &mut Vec<u8>, work: Work) -> Result<(), AllocError>
     }
 }
 
-#[tactic(auto, unfolding(crate::parts::specs::Objects::value_read))]
+#[tactic(auto, unfolding(crate::specs::Objects::value_read))]
 fn field_at(bytes: &mut &[u8]) -> Result<FieldValue, ReadError>
     ensures { Reads (λ x. x) result bytes.new.now (value_read bytes.old.now) }
 {
@@ -103,7 +103,7 @@ impl Written for FieldValue {
     }
 }
 
-#[tactic(auto, unfolding(crate::parts::specs::Objects::plain_read))]
+#[tactic(auto, unfolding(crate::specs::Objects::plain_read))]
 fn plain_at(alloc: Global, bytes: &mut &[u8]) -> Result<Object, ReadError>
     ensures { Reads (λ x. x) result bytes.new.now (plain_read bytes.old.now) }
 {
@@ -112,7 +112,7 @@ fn plain_at(alloc: Global, bytes: &mut &[u8]) -> Result<Object, ReadError>
     Ok(Object::Plain(Contents::Typed(Fields::from_vec(fields).unwrap())))
 }
 
-#[tactic(auto, unfolding(crate::parts::specs::Objects::array_read))]
+#[tactic(auto, unfolding(crate::specs::Objects::array_read))]
 fn array_at(alloc: Global, bytes: &mut &[u8]) -> Result<Object, ReadError>
     ensures { Reads (λ x. x) result bytes.new.now (array_read bytes.old.now) }
 {
@@ -131,7 +131,7 @@ fn array_in(alloc: Global, version: Version, bytes: &mut &[u8]) -> Result<Object
     }
 }
 
-#[tactic(auto, unfolding(crate::parts::specs::Objects::reference_read))]
+#[tactic(auto, unfolding(crate::specs::Objects::reference_read))]
 fn reference_at(bytes: &mut &[u8]) -> Result<Object, ReadError>
     ensures { Reads (λ x. x) result bytes.new.now (reference_read bytes.old.now) }
 {
@@ -148,7 +148,7 @@ fn reference_at(bytes: &mut &[u8]) -> Result<Object, ReadError>
     Ok(Object::Reference(reference))
 }
 
-#[tactic(auto, unfolding(crate::parts::specs::Objects::queue_read))]
+#[tactic(auto, unfolding(crate::specs::Objects::queue_read))]
 fn queue_at(alloc: Global, bytes: &mut &[u8]) -> Result<Object, ReadError>
     ensures { Reads (λ x. x) result bytes.new.now (queue_read bytes.old.now) }
 {
@@ -156,7 +156,7 @@ fn queue_at(alloc: Global, bytes: &mut &[u8]) -> Result<Object, ReadError>
     Ok(Object::Queue(members))
 }
 
-#[tactic(auto, unfolding(crate::parts::specs::Objects::cleanable_read))]
+#[tactic(auto, unfolding(crate::specs::Objects::cleanable_read))]
 fn cleanable_at(bytes: &mut &[u8]) -> Result<Object, ReadError>
     ensures { Reads (λ x. x) result bytes.new.now (cleanable_read bytes.old.now) }
 {
@@ -173,7 +173,7 @@ fn cleanable_at(bytes: &mut &[u8]) -> Result<Object, ReadError>
     Ok(Object::Cleanable(cleanable))
 }
 
-#[tactic(auto, unfolding(crate::parts::specs::Objects::guard_read))]
+#[tactic(auto, unfolding(crate::specs::Objects::guard_read))]
 fn guard_at(bytes: &mut &[u8]) -> Result<Object, ReadError>
     ensures { Reads (λ x. x) result bytes.new.now (guard_read bytes.old.now) }
 {
@@ -183,7 +183,7 @@ fn guard_at(bytes: &mut &[u8]) -> Result<Object, ReadError>
 }
 
 /// An object: its kind, and what that kind has.
-#[tactic(auto, unfolding(crate::parts::specs::Objects::object_read))]
+#[tactic(auto, unfolding(crate::specs::Objects::object_read))]
 pub(crate) fn object_at(
     alloc: Global,
     version: Version,

@@ -38,7 +38,7 @@ pub struct Held {
 }
 
 /// What a mutator is in the middle of.
-#[tactic(auto, unfolding(crate::parts::specs::Records::call_read))]
+#[tactic(auto, unfolding(crate::specs::Records::call_read))]
 pub fn take_call(bytes: &mut &[u8]) -> Result<Call, ReadError>
     ensures { Reads (λ x. x) result bytes.new.now (call_read bytes.old.now) }
 {
@@ -91,7 +91,7 @@ impl Item for Binding {
 
     const LEAST: usize = 6;
 
-    #[tactic(auto, unfolding(crate::parts::specs::Records::binding_read))]
+    #[tactic(auto, unfolding(crate::specs::Records::binding_read))]
     fn read(_alloc: Global, bytes: &mut &[u8]) -> Result<Self, ReadError> {
         let name = take_name(bytes)?;
         let slot = take_slot(bytes)?;
@@ -121,7 +121,7 @@ impl Item for Failure {
 
     const LEAST: usize = 9;
 
-    #[tactic(auto, unfolding(crate::parts::specs::Records::failure_read))]
+    #[tactic(auto, unfolding(crate::specs::Records::failure_read))]
     fn read(_alloc: Global, bytes: &mut &[u8]) -> Result<Self, ReadError> {
         let action = take_action(bytes)?;
         let fault = take_fault(bytes)?;
@@ -157,7 +157,7 @@ impl Keyed for Job {
         self.action.number()
     }
 
-    #[tactic(auto, unfolding(crate::parts::specs::Records::job_after))]
+    #[tactic(auto, unfolding(crate::specs::Records::job_after))]
     fn read(_alloc: Global, before: Option<u64>, bytes: &mut &[u8]) -> Result<Self, ReadError> {
         let action = take_action(bytes)?;
         if !follows(before, action.number()) {
@@ -198,7 +198,7 @@ impl Keyed for Resource {
         self.rid.number() as u64
     }
 
-    #[tactic(auto, unfolding(crate::parts::specs::Records::resource_after))]
+    #[tactic(auto, unfolding(crate::specs::Records::resource_after))]
     fn read(_alloc: Global, before: Option<u64>, bytes: &mut &[u8]) -> Result<Self, ReadError> {
         let rid = take_rid(bytes)?;
         if !follows(before, rid.number() as u64) {
@@ -225,7 +225,7 @@ impl Written for Resource {
 }
 
 /// An object and its slot, which is above the one before it.
-#[tactic(auto, unfolding(crate::parts::specs::Records::placed_after))]
+#[tactic(auto, unfolding(crate::specs::Records::placed_after))]
 pub fn take_placed(
     alloc: Global,
     version: Version,
@@ -278,7 +278,7 @@ impl Keyed for Held {
         self.handle.number() as u64
     }
 
-    #[tactic(auto, unfolding(crate::parts::specs::Records::held_after))]
+    #[tactic(auto, unfolding(crate::specs::Records::held_after))]
     fn read(_alloc: Global, before: Option<u64>, bytes: &mut &[u8]) -> Result<Self, ReadError> {
         let handle = take_handle(bytes)?;
         if !follows(before, handle.number() as u64) {

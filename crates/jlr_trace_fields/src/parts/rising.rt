@@ -89,7 +89,7 @@ impl Keyed for Slot {
         self.number() as u64
     }
 
-    #[tactic(auto, unfolding(crate::parts::specs::Records::slot_after))]
+    #[tactic(auto, unfolding(crate::specs::Records::slot_after))]
     fn read(_alloc: Global, before: Option<u64>, bytes: &mut &[u8]) -> Result<Self, ReadError> {
         let slot = take_slot(bytes)?;
         if !follows(before, slot.number() as u64) {
