@@ -2,7 +2,7 @@
 //! back by a collection.
 ghost use Rattle.std.specs.Prelude.{◌≡◌, [], IfNone, IfOk, vec_len};
 ghost use Rattle.jlr_heap.specs.Entries.{unrecorded};
-ghost use Rattle.jlr_heap.specs.Guards.{IsTold, TellsJob};
+ghost use Rattle.jlr_heap.specs.Guards.{IsTold, TellsTaken};
 ghost use Rattle.jlr_machine.specs.declared.ask.Ask.TheVariants.{Close};
 ghost use Rattle.jlr_event.specs.declared.event.Event.TheVariants.{Ask as Asks};
 
@@ -39,7 +39,7 @@ fn guard_of(heap: &mut TokenHeap, number: u64) -> Result<Guard, Refusal> {
 
 /// A guard is closed: the job gives back the number that it held; none where it was given back before.
 fn stop(heap: &mut TokenHeap, guard: Guard) -> Result<Option<Job<u64>>, Refusal>
-    ensures { IsTold unrecorded TellsJob heap.old (Asks (Close 0 guard)) result heap.new }
+    ensures { IsTold unrecorded TellsTaken heap.old (Asks (Close 0 guard)) result heap.new }
 {
     heap.stop(guard)
 }

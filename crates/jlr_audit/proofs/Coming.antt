@@ -8,7 +8,7 @@ use Rattle.jlr_machine.specs.declared.machine.Machine.{Machine}
 use Rattle.jlr_machine.specs.declared.entry.Entry.{Entry}
 use Rattle.jlr_machine.specs.Run.{IsLegal, Run}
 use Rattle.jlr_machine.specs.WellFormed.{IsImage}
-use Rattle.jlr_plain.specs.Following.{IsFit, IsNext}
+use Rattle.jlr_plain.specs.Following.{IsWellFollowed, IsNext}
 use Rattle.jlr_trace_fields.specs.declared.parts.record.Placed.{Placed}
 use Rattle.jlr_trace.specs.declared.file.TraceFault.{TraceFault}
 use Rattle.jlr_trace.specs.declared.window.StreamFault.{StreamFault}
@@ -104,11 +104,11 @@ goes_on start old new number e h c = record {
 
 -- those that came were legal, one after the other, and led here
 pub record HasRun (image : Machine) (start : Coming) (machine : Machine) (now : Coming) (number : ℕ) : Type 0 where
-  pub fit : IsFit machine
+  pub fit : IsWellFollowed machine
   pub so_far : HasCome start now number
   pub run : Run image so_far.front machine
 
-pub run_begins : (image : Machine) (start : Coming) → IsFit image → HasRun image start image start 0
+pub run_begins : (image : Machine) (start : Coming) → IsWellFollowed image → HasRun image start image start 0
 unfolding begins
 run_begins image start fit = record { fit = fit; so_far = begins start; run = refl }
 

@@ -6,7 +6,7 @@ ghost use Rattle.jlr_audit.specs.Streams.{AreComing, IsStreamVerdict, IsOnlyVerd
 ghost use Rattle.jlr_machine.specs.declared.entry.Entry.{Entry as EntryOf};
 ghost use Rattle.jlr_machine.specs.Run.{IsLegal};
 ghost use Rattle.jlr_machine.specs.WellFormed.{IsImage};
-ghost use Rattle.jlr_plain.specs.Following.{IsFit, IsNext};
+ghost use Rattle.jlr_plain.specs.Following.{IsWellFollowed, IsNext};
 ghost use Rattle.jlr_trace.specs.Streams.{FailsOn, AllAreBytes};
 
 use crate::verdict::Verdict;
@@ -24,7 +24,7 @@ use std::io::Read;
 
 /// The machine after an entry, if the entry is legal in it; none if it is not. Both are given up for it.
 fn advanced(alloc: Global, machine: Machine, entry: Entry) -> Result<Option<Machine>, AllocError>
-    requires { IsFit machine }
+    requires { IsWellFollowed machine }
     ensures { IfOk result (λ o. MatchOption o (¬ (IsLegal machine entry)) (λ n. IsNext machine entry n)) }
 {
     advance_plain(alloc, machine, &entry)

@@ -1,6 +1,6 @@
 //! Whether a history is a run of the machine.
 ghost use Rattle.std.specs.Prelude.{IfOk};
-ghost use Rattle.jlr_plain.specs.Following.{IsFit};
+ghost use Rattle.jlr_plain.specs.Following.{IsWellFollowed};
 ghost use Rattle.jlr_audit.specs.Verdicts.{IsLegalFront};
 
 use crate::watch::Watch;
@@ -26,7 +26,7 @@ pub fn legal_front<W: Watch>(
     entries: &[Entry],
     watch: &mut W,
 ) -> Result<usize, AllocError>
-    requires { IsFit machine }
+    requires { IsWellFollowed machine }
     ensures { IfOk result (λ n. IsLegalFront machine entries.now n) }
 {
     let mut machine = machine;

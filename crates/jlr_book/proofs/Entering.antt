@@ -27,7 +27,7 @@ use Rattle.jlr_laws.proofs.Seats.{legality_looks_at_no_seat}
 use Rattle.jlr_laws.proofs.UpToDate.{seen_stays_up_to_date}
 use Rattle.jlr_histories.specs.Collecting.{may_collect}
 use Rattle.jlr_histories.specs.Owing.{owed}
-use Rattle.jlr_histories.specs.Rooms.{Rooms, Fits, HasRoomFor}
+use Rattle.jlr_histories.specs.Rooms.{Rooms, FitsRooms, HasRoomFor}
 use Rattle.jlr_histories.proofs.Collecting.{no_collection_unless_it_may}
 use Rattle.jlr_histories.proofs.Fitting.{answers_fit}
 use Rattle.jlr_histories.proofs.Owing.{end_collects, end_lowers}
@@ -42,10 +42,10 @@ use Rattle.jlr_core.specs.Events.{Enters, carries_none}
 use Rattle.jlr_core.specs.Events.{GoesOut}
 use Rattle.jlr_core.specs.Events.{entry_of}
 use Rattle.jlr_core.specs.Steps.{IsStep}
-use Rattle.jlr_book.specs.Histories.{Ends, seated}
-use Rattle.jlr_book.specs.Lists.{is_brief}
+use Rattle.jlr_book.specs.Histories.{LeadsToCore, seated}
+use Rattle.jlr_book.specs.Lists.{fits_fast_path}
 use Rattle.jlr_book.specs.Making.{SuitsChoice, SuitsEntry}
-use Rattle.jlr_book.specs.Writing.{Refuses, Stands, Writes, refuses}
+use Rattle.jlr_book.specs.Writing.{Refuses, Stands, WritesEntry, refuses}
 use Rattle.jlr_book.specs.declared.room.ChoiceRoom.{ChoiceRoom}
 use Rattle.jlr_book.specs.declared.room.ChoiceRoom.TheVariants.{Collecting, Plain}
 use Rattle.jlr_book.specs.declared.room.EntryRoom.{EntryRoom}
@@ -81,7 +81,7 @@ entered image m n entries seat None None chosen r w u e =
 
 pub ends_more : {R : Type 0} (image : Machine) (entries : List Entry) (h k : Kept R) (seat : ℕ) (e : Event R) (reply : Reply R)
     (chosen : Chosen) (s : IsStep h e reply chosen k)
-    → Ends image entries h → Ends image (entries ++ option_to_list (seated seat (ask_of e) (answer_in reply) chosen)) k
+    → LeadsToCore image entries h → LeadsToCore image (entries ++ option_to_list (seated seat (ask_of e) (answer_in reply) chosen)) k
 ends_more image entries h k seat e reply chosen s ends =
     let x = s.entry ends.0 ends.2 in
     let y = entered image ends.0 x.0 entries seat (ask_of e) (answer_in reply) chosen ends.1 ends.3 ends.4 x.1 in
@@ -138,7 +138,7 @@ module _ {R : Type 0} (h k : Kept R) (e : Event R) (reply : Reply R) (chosen : C
       subst (λ c. IsStep h e reply c k) (ap {A = Option Collected} {B = Chosen} (λ o. choice_of o chosen.fresh) (collected_none may)
       ∙ ap {A = List ℕ} {B = Chosen} (λ l. choice_of None l) (sym same)) s
 
--- ---- Ends
+-- ---- LeadsToCore
 
 -- an end takes no cell
 no_cells : (m : Machine) (ask : Ask) → is_end ask ≡ true → IsTrue (not (has_room m (cells_needed ask))) → ⊥
@@ -182,7 +182,8 @@ end_chooses m ask answer chosen is (out_of_memory r) = r.nothing
 -- an end that the core refuses leaves the machine
 pub refused_stays : {R : Type 0} (image : Machine) (entries : List Entry) (h k : Kept R) (e : Event R) (reply : Reply R) (chosen : Chosen)
     (asked : Ask) (by : Refusal) → IsStep h e reply chosen k
-    → ask_of e ≡ Some asked → is_end asked ≡ true → answer_in reply ≡ Some (Refused by) → Ends image entries h → Ends image entries k
+    → ask_of e ≡ Some asked → is_end asked ≡ true → answer_in reply ≡ Some (Refused by) → LeadsToCore image entries h
+    → LeadsToCore image entries k
 refused_stays image entries h k e reply chosen asked by s is end was ends =
     let m = ends.0 in
     let x = s.entry m ends.2 in
@@ -199,7 +200,7 @@ refused_stays image entries h k e reply chosen asked by s is end was ends =
 -- what a core answers fits the room that was made for it
 pub list_fits : {R : Type 0} (h k : Kept R) (e : Event R) (answer : Answer) (resource : Option R) (chosen : Chosen) (asked : Ask)
     (room : Rooms) → IsStep h e (Answered answer resource) chosen k
-    → ask_of e ≡ Some asked → Stands h → HasRoomFor asked room → Fits room answer
+    → ask_of e ≡ Some asked → Stands h → HasRoomFor asked room → FitsRooms room answer
 list_fits h k e answer resource chosen asked room s is st r =
     let x = as_entered h k e answer resource chosen asked s is st in
     answers_fit st.0 (entry_of asked answer chosen) room st.2 x.1.0 r
@@ -207,7 +208,7 @@ list_fits h k e answer resource chosen asked room s is st r =
 -- an ask is answered, and the answer fits the room that was made for it
 pub answered : {R : Type 0} (h k : Kept R) (e : Event R) (reply : Reply R) (chosen : Chosen) (asked : Ask) (room : Rooms)
     → IsStep h e reply chosen k
-    → ask_of e ≡ Some asked → Stands h → HasRoomFor asked room → (answer : Answer) × (answer_in reply ≡ Some answer) × Fits room answer
+    → ask_of e ≡ Some asked → Stands h → HasRoomFor asked room → (answer : Answer) × (answer_in reply ≡ Some answer) × FitsRooms room answer
 answered h k e (Answered answer resource) chosen asked room s is st r =
     (answer, refl, list_fits h k e answer resource chosen asked room s is st r)
 answered h k e (Marked progress) chosen asked room s is st r = absurd (not_marked h k e progress chosen asked s is st)
@@ -224,14 +225,14 @@ end_has_room (ask.Finish by action outcome) brought room is brings holds = tt
 end_has_room a brought room is brings holds = absurd (both_ways false refl is)
 
 -- an ask whose entry takes its place alone is no end, and needs no room
-pub brief_is_no_end : (asked : Ask) → is_brief asked ≡ true → is_end asked ≡ false
+pub brief_is_no_end : (asked : Ask) → fits_fast_path asked ≡ true → is_end asked ≡ false
 brief_is_no_end (ask.Leave k) is = absurd (both_ways false refl is)
 brief_is_no_end (ask.Opened k outcome) is = absurd (both_ways false refl is)
 brief_is_no_end (ask.CheckIn k outcome) is = absurd (both_ways false refl is)
 brief_is_no_end (ask.Finish by action outcome) is = absurd (both_ways false refl is)
 brief_is_no_end a is = refl
 
-pub brief_has_room : (asked : Ask) (room : Rooms) → is_brief asked ≡ true → HasRoomFor asked room
+pub brief_has_room : (asked : Ask) (room : Rooms) → fits_fast_path asked ≡ true → HasRoomFor asked room
 brief_has_room (ask.Names k) room is = absurd (both_ways false refl is)
 brief_has_room (ask.Notes k) room is = absurd (both_ways false refl is)
 brief_has_room (ask.Faults k) room is = absurd (both_ways false refl is)
@@ -239,7 +240,7 @@ brief_has_room (ask.CheckIn k outcome) room is = absurd (both_ways false refl is
 brief_has_room a room is = tt
 
 -- no file or socket goes in or out with it
-pub brief_carries_none : (asked : Ask) → is_brief asked ≡ true → carries_none asked ≡ true
+pub brief_carries_none : (asked : Ask) → fits_fast_path asked ≡ true → carries_none asked ≡ true
 brief_carries_none (ask.Clean k c) is = absurd (both_ways false refl is)
 brief_carries_none (ask.Opened k outcome) is = absurd (both_ways false refl is)
 brief_carries_none (ask.CheckOut k h) is = absurd (both_ways false refl is)
@@ -303,14 +304,14 @@ when_shut : (m : Machine) → m.cycle_open ≡ false → now_seen m ≡ []
 when_shut m shut = rw shut refl
 
 -- with no cycle open a core stands for the machine that it keeps
-pub stands_for_its_own : {R : Type 0} (h : Kept R) → Stands h → h.machine.cycle_open ≡ false → Ends h.machine [] h
+pub stands_for_its_own : {R : Type 0} (h : Kept R) → Stands h → h.machine.cycle_open ≡ false → LeadsToCore h.machine [] h
 stands_for_its_own h st shut =
     let m = st.0 in
     let was_shut : m.cycle_open ≡ false = sym (ap {A = Machine} {B = Bool} (λ n. n.cycle_open) st.1.same) ∙ shut in
     let none : m.seen ≡ [] = st.1.outside was_shut in
     let same : h.machine ≡ m = st.1.same ∙ ap {A = List ℕ} {B = Machine} (λ l. record m { seen = l }) (sym none) in
     let date : IsUpToDate m = none ∙ sym (when_shut m was_shut) in
-    subst (λ n. Ends n [] h) (sym same) (m, refl, st.1, st.2, date)
+    subst (λ n. LeadsToCore n [] h) (sym same) (m, refl, st.1, st.2, date)
 
 -- ---- What is written down
 
@@ -318,7 +319,7 @@ pub writes : {R : Type 0} (h k : Kept R) (e : Event R) (answer noted : Answer) (
     (entries entries' : List Entry) (seat : ℕ)
     → IsStep h e (Answered answer resource) chosen k → ask_of e ≡ Some asked → entries' ≡ entries ++ entry_by seat asked noted chosen ∷ []
     → noted ≡ answer
-    → Writes seat h entries e (Answered answer resource) k entries'
+    → WritesEntry seat h entries e (Answered answer resource) k entries'
 writes h k e answer noted resource asked chosen entries entries' seat s is more same_answer =
     let same : entry_by seat asked noted chosen ≡ entry_by seat asked answer chosen =
     ap {A = Answer} {B = Entry} (λ a. entry_by seat asked a chosen) same_answer in
@@ -334,7 +335,7 @@ pub writes_noted : {R : Type 0} (h k : Kept R) (e : Event R) (reply : Reply R) (
     (entries entries' : List Entry) (seat : ℕ)
     → IsStep h e reply chosen k → ask_of e ≡ Some asked → answer_in reply ≡ Some noted → entries' ≡ entries
     ++ entry_by seat asked noted chosen ∷ []
-    → Writes seat h entries e reply k entries'
+    → WritesEntry seat h entries e reply k entries'
 writes_noted h k e reply noted asked chosen entries entries' seat s is said more = record {
   chosen = chosen;
   step = s;
@@ -354,7 +355,7 @@ end_chose h k e answer resource asked chosen s is end st =
 pub not_refused : (answer : Answer) (by : Refusal) → refuses answer ≡ false → Some answer ≡ Some (Refused by) → ⊥
 not_refused answer by h e = both_ways (refuses answer) h (ap refuses (some_same answer (Refused by) e))
 
-pub stands_there : {R : Type 0} (image : Machine) (entries : List Entry) (core : Kept R) → Ends image entries core → Stands core
+pub stands_there : {R : Type 0} (image : Machine) (entries : List Entry) (core : Kept R) → LeadsToCore image entries core → Stands core
 stands_there image entries core ends = (ends.0, ends.2, ends.3)
 
 -- an end that is not refused was owed, whatever the reply

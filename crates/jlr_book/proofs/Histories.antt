@@ -18,7 +18,7 @@ use Rattle.jlr_event.specs.declared.event.Reply.{Reply}
 use Rattle.jlr_event.specs.Events.{ask_of, answer_in}
 use Rattle.jlr_core.specs.Cores.{Kept}
 use Rattle.jlr_core.specs.Steps.{IsStep}
-use Rattle.jlr_book.specs.Histories.{Ends, HasLimits, HasNumbers, History, IsHistory, seated, spare}
+use Rattle.jlr_book.specs.Histories.{LeadsToCore, HasLimits, HasNumbers, History, IsHistory, seated, spare}
 use Rattle.jlr_laws.proofs.Empty.{empty_is_well_formed}
 use Rattle.jlr_histories.specs.Owing.{owed, owed_by, most_owed}
 use Rattle.jlr_histories.proofs.Owing.{owed_bounded}
@@ -26,7 +26,7 @@ use Rattle.jlr_book.proofs.Limits.{runs_keep_the_limits}
 use Rattle.jlr_core.proofs.Ranges.{limits_hold}
 use Rattle.jlr_core.proofs.RunLaws.{stands_at_start, start_cells}
 use Rattle.jlr_book.specs.Rules.{AsksBy, BookSteps, Cuts, EndsBy, Enters, GivesUp, Readies, StepsBy}
-use Rattle.jlr_book.specs.Writing.{Stands, Writes, WritesEnd}
+use Rattle.jlr_book.specs.Writing.{Stands, WritesEntry, WritesEnd}
 use Rattle.jlr_book.proofs.Entering.{closed, ends_more, owed_less_by, refused_stays, stands_for_its_own, stands_there}
 
 abbrev pub told : {R : Type 0} → Limits → ℕ → Machine → List Entry → Kept R → History R
@@ -57,7 +57,7 @@ as_many xs ys o e =
 -- an entry more, or none, where numbers for all that may be owed are left
 pub goes_on : {R : Type 0} (limits : Limits) (base : ℕ) (image : Machine) (entries entries' : List Entry) (core core' : Kept R) (seat : ℕ)
     (e : Event R) (reply : Reply R)
-    → IsHistory (told limits base image entries core) → Writes seat core entries e reply core' entries'
+    → IsHistory (told limits base image entries core) → WritesEntry seat core entries e reply core' entries'
     → length core'.machine.objects ≡ length core.machine.objects
     → base + length entries' + spare core'.machine < 2 ^ 64 → IsHistory (told limits base image entries' core')
 goes_on limits base image entries entries' core core' seat e reply h w cells fits =
@@ -65,13 +65,13 @@ goes_on limits base image entries entries' core core' seat e reply h w cells fit
       image = h.image;
       limits_are = h.limits_are;
       at_0 = h.at_0;
-      ends = subst (λ l. Ends image l core') (sym w.adds) (ends_more image entries core core' seat e reply w.chosen w.step h.ends);
+      ends = subst (λ l. LeadsToCore image l core') (sym w.adds) (ends_more image entries core core' seat e reply w.chosen w.step h.ends);
       fits = fits;
       cells = cells ∙ h.cells;
     }
 
 pub stands_after : {R : Type 0} (image : Machine) (entries : List Entry) (core core' : Kept R) (e : Event R) (reply : Reply R)
-    (chosen : Chosen) → IsStep core e reply chosen core' → Ends image entries core → Stands core'
+    (chosen : Chosen) → IsStep core e reply chosen core' → LeadsToCore image entries core → Stands core'
 stands_after image entries core core' e reply chosen s ends =
     stands_there image _ core' (ends_more image entries core core' 0 e reply chosen s ends)
 
@@ -80,7 +80,7 @@ nothing_left [] e = refl
 nothing_left (x ∷ entries) e = absurd (omega (arith, e))
 
 -- the machine of a core that stands at an image, with no entry since
-at_image : {R : Type 0} (image : Machine) (core : Kept R) → IsImage image → Ends image [] core → closed core.machine ≡ image
+at_image : {R : Type 0} (image : Machine) (core : Kept R) → IsImage image → LeadsToCore image [] core → closed core.machine ≡ image
 at_image image core i ends =
     let none : image.seen ≡ [] = i.well_formed.seen_in_cycle i.no_cycle in
     let same : core.machine ≡ record image { seen = [] } = ends.2.same
@@ -108,27 +108,28 @@ pub cut_history : {R : Type 0} (limits : Limits) (base used : ℕ) (image : Mach
     → base + used + spare core'.machine < 2 ^ 64 → IsHistory (told limits (base + used) (closed core.machine) [] core')
 cut_history limits base used image entries core core' h same st is fits =
     let shut : core'.machine.cycle_open ≡ false = ap {A = Machine} {B = Bool} (λ m. m.cycle_open) same in
-    let ends : Ends (closed core.machine) [] core' = subst (λ m. Ends m [] core') same (stands_for_its_own core' st shut) in
+    let ends : LeadsToCore (closed core.machine) [] core' = subst (λ m. LeadsToCore m [] core') same (stands_for_its_own core' st shut) in
     record {
       image = record { well_formed = subst IsWellFormed ends.1 ends.3; no_cycle = refl };
       limits_are = core_limits limits base image entries core h;
       at_0 = λ z.
           let none : entries ≡ [] = nothing_left entries (omega (arith, z, is)) in
-          let here : Ends image [] core = subst (λ l. Ends image l core) none h.ends in
+          let here : LeadsToCore image [] core = subst (λ l. LeadsToCore image l core) none h.ends in
           at_image image core h.image here ∙ h.at_0 (omega (arith, z));
       ends = ends;
       fits = omega (arith, fits);
       cells = ap {A = Machine} {B = ℕ} (λ m. length m.objects) same ∙ h.cells;
     }
 
--- ---- Ends
+-- ---- LeadsToCore
 
 -- a run leads to one machine
 same_end : (image m n : Machine) (entries : List Entry) → Run image entries m → Run image entries n → m ≡ n
 same_end image m n [] r t = r ∙ sym t
 same_end image m n (e ∷ entries) r t = same_end (apply image e) m n entries r.1 t.1
 
-same_owed : {R : Type 0} (image : Machine) (entries : List Entry) (core core' : Kept R) → Ends image entries core → Ends image entries core'
+same_owed : {R : Type 0} (image : Machine) (entries : List Entry) (core core' : Kept R) → LeadsToCore image entries core
+    → LeadsToCore image entries core'
     → owed core'.machine ≡ owed core.machine
 same_owed image entries core core' a b =
     ap {A = Machine} {B = ℕ} owed b.2.same ∙ ap {A = Machine} {B = ℕ} owed (same_end image b.0 a.0 entries b.1 a.1)
@@ -148,7 +149,7 @@ end_goes_on limits base room image entries entries' core core' seat e reply aske
       omega (arith, less, more, places),
     )
 end_goes_on limits base room image entries entries' core core' seat e reply asked h is end (inr r) cells places =
-    let ends : Ends image entries core' =
+    let ends : LeadsToCore image entries core' =
     refused_stays image entries core core' e reply r.steps.0 asked r.by r.steps.1 is end r.refused h.ends in
     let st = stands_there image entries core h.ends in
     let st' = stands_there image entries core' ends in
@@ -157,7 +158,7 @@ end_goes_on limits base room image entries entries' core core' seat e reply aske
         image = h.image;
         limits_are = h.limits_are;
         at_0 = h.at_0;
-        ends = subst (λ l. Ends image l core') (sym r.stays) ends;
+        ends = subst (λ l. LeadsToCore image l core') (sym r.stays) ends;
         fits = subst (λ l. base + length l + spare core'.machine < 2 ^ 64) (sym r.stays) (omega (arith, owes, h.fits));
         cells = cells ∙ h.cells;
       },
@@ -191,7 +192,7 @@ ends_by {R} limits base image entries entries' core core' seat e reply (inr r) =
 
 pub enters_by : {R : Type 0} (limits : Limits) (base : ℕ) (image : Machine) (entries entries' : List Entry) (core core' : Kept R) (seat : ℕ)
     (e : Event R) (reply : Reply R)
-    → Writes seat core entries e reply core' entries'
+    → WritesEntry seat core entries e reply core' entries'
     → Enters seat (told limits base image entries core) e reply (told limits base image entries' core')
 enters_by {R} limits base image entries entries' core core' seat e reply w =
     record { chosen = w.chosen; step = w.step; adds = ap {A = List Entry} {B = History R} (λ l. told limits base image l core') w.adds }
@@ -199,7 +200,7 @@ enters_by {R} limits base image entries entries' core core' seat e reply w =
 -- ---- Marking
 
 marks : {R : Type 0} (core core' : Kept R) (entries : List Entry) (seat : ℕ) (e : Event R) (reply : Reply R) (chosen : Chosen)
-    → IsStep core e reply chosen core' → ask_of e ≡ None → Writes seat core entries e reply core' entries
+    → IsStep core e reply chosen core' → ask_of e ≡ None → WritesEntry seat core entries e reply core' entries
 marks core core' entries seat e reply chosen s is =
     record {
       chosen = chosen;
@@ -215,8 +216,8 @@ pub mark_goes_on : {R : Type 0} (limits : Limits) (base room : ℕ) (image : Mac
     → IsHistory (told limits base image entries core') × (length entries + owed core'.machine ≤ room)
 mark_goes_on limits base room image entries core core' e reply chosen h s is cells places =
     let w = marks core core' entries 0 e reply chosen s is in
-    let ends : Ends image entries core' =
-    subst (λ l. Ends image l core') (sym w.adds) (ends_more image entries core core' 0 e reply w.chosen w.step h.ends) in
+    let ends : LeadsToCore image entries core' =
+    subst (λ l. LeadsToCore image l core') (sym w.adds) (ends_more image entries core core' 0 e reply w.chosen w.step h.ends) in
     let owes = same_owed image entries core core' h.ends ends in
     (goes_on limits base image entries entries core core' 0 e reply h w cells (omega (arith, owes, h.fits)), omega (arith, owes, places))
 
@@ -225,7 +226,7 @@ mark_goes_on limits base room image entries core core' e reply chosen h s is cel
 -- numbers for the entry and for all that may be owed then
 pub enter_goes_on : {R : Type 0} (limits : Limits) (base : ℕ) (image : Machine) (entries entries' : List Entry) (core core' : Kept R)
     (seat : ℕ) (e : Event R) (reply : Reply R)
-    → IsHistory (told limits base image entries core) → Writes seat core entries e reply core' entries'
+    → IsHistory (told limits base image entries core) → WritesEntry seat core entries e reply core' entries'
     → length core'.machine.objects ≡ length core.machine.objects
     → base + length entries + 131 < 2 ^ 64 → IsHistory (told limits base image entries' core') × (length entries' ≤ length entries + 1)
     × (owed core'.machine ≤ most_owed)
@@ -253,7 +254,8 @@ module _ {R : Type 0} (h ready : History R) where
 
 pub asks_by : {R : Type 0} (limits : Limits) (base : ℕ) (image : Machine) (entries entries' : List Entry) (core core' : Kept R) (seat : ℕ)
     (e : Event R) (reply : Reply R)
-    → HasNumbers (told limits base image entries core) → length entries < limits.trace → Writes seat core entries e reply core' entries'
+    → HasNumbers (told limits base image entries core) → length entries < limits.trace → WritesEntry seat core entries e reply core'
+    entries'
     → AsksBy seat (told limits base image entries core) e reply (told limits base image entries' core')
 asks_by limits base image entries entries' core core' seat e reply n l w =
     let h = told limits base image entries core in
@@ -310,7 +312,8 @@ module _ {R : Type 0} (limits : Limits) (base used : ℕ) (image image' : Machin
 
   -- and then an entry
   module _ (entries' : List Entry) (core' : Kept R) (seat : ℕ) (e : Event R) (reply : Reply R) where
-    pub cut_goes_on : IsCut → Writes seat between [] e reply core' entries' → length core'.machine.objects ≡ length between.machine.objects
+    pub cut_goes_on : IsCut → WritesEntry seat between [] e reply core' entries' → length core'.machine.objects
+        ≡ length between.machine.objects
         → IsHistory (told limits (base + used) image' entries' core') × (length entries' ≤ 1) × (owed core'.machine ≤ most_owed)
     cut_goes_on x w cells =
         let bit = bit_small core.machine.cycle_open in
@@ -318,7 +321,7 @@ module _ {R : Type 0} (limits : Limits) (base used : ℕ) (image image' : Machin
         (omega (arith, bit, x.used_is, x.numbers)) in
         (subst (λ m. IsHistory (told limits (base + used) m entries' core')) (sym x.image_is) on.0, omega (arith, on.1), on.2)
 
-    pub cut_asks_by : IsCut → limits.trace ≤ length entries → Writes seat between [] e reply core' entries'
+    pub cut_asks_by : IsCut → limits.trace ≤ length entries → WritesEntry seat between [] e reply core' entries'
         → AsksBy seat (told limits base image entries core) e reply (told limits (base + used) image' entries' core')
     cut_asks_by x long w =
         let ready = told limits (base + used) image' [] between in
@@ -361,7 +364,7 @@ starts limits image core is copied =
             resources = refl;
           });
       at_0 = λ _. here;
-      ends = subst (λ n. Ends n [] core) (sym here)
+      ends = subst (λ n. LeadsToCore n [] core) (sym here)
           (m, refl, stands_at_start core limits.cells limits.sessions limits.resources is, formed, refl);
       fits = omega (arith, owes);
       cells = start_cells core limits.cells limits.sessions limits.resources is;

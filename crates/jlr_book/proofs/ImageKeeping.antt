@@ -13,7 +13,7 @@ use Rattle.jlr_laws.proofs.Empty.{empty_is_well_formed}
 use Rattle.jlr_laws.proofs.Frames.{no_some}
 use Rattle.jlr_plain.specs.Unseen.{unseen}
 use Rattle.jlr_book.specs.Led.{closed, led, shut, LeadsOn}
-use Rattle.jlr_book.specs.ImageKeeping.{image_from, kept_from, AreFree}
+use Rattle.jlr_book.specs.ImageKeeping.{image_from, kept_from, AreEmptyCells}
 use Rattle.std.specs.Global.{Vec}
 use Rattle.std.specs.Vec.{vec_len}
 use Rattle.jlr_machine.specs.declared.object.Object.{Object}
@@ -73,7 +73,7 @@ is_none None e = refl
 is_none (Some m) e = absurd (both_ways false refl (sym e))
 
 pub made : (limits : Limits) (kept : Option Machine) (m : Machine) (cells : Vec (Option Object)) (places : List (Option Object))
-    → is_some kept ≡ false → AreFree cells limits.cells → limits.cells ≤ vec_len cells → places ≡ cells.items
+    → is_some kept ≡ false → AreEmptyCells cells limits.cells → limits.cells ≤ vec_len cells → places ≡ cells.items
     → ((n : ℕ) → places ≡ replicate n None → m ≡ empty n limits.sessions limits.resources)
     → kept_from limits (Some m) ≡ kept_from limits kept
 made limits kept m cells places none free many same is =

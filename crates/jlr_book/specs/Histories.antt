@@ -36,8 +36,8 @@ seated seat (Some ask) None chosen = None
 seated seat None answer chosen = None
 
 -- the entries lead from the image to a machine for which the core stands, and in which what was seen is up to date
-abbrev pub Ends : {R : Type 0} → Machine → List Entry → Kept R → Type 0
-Ends image entries core = (m : Machine) × Run image entries m × StandsIn core m × IsWellFormed m × IsUpToDate m
+abbrev pub LeadsToCore : {R : Type 0} → Machine → List Entry → Kept R → Type 0
+LeadsToCore image entries core = (m : Machine) × Run image entries m × StandsIn core m × IsWellFormed m × IsUpToDate m
 
 -- numbers that are kept free: for the ends that are owed, and for giving up a cycle
 abbrev pub spare : Machine → ℕ
@@ -58,7 +58,7 @@ pub record IsHistory {R : Type 0} (h : History R) : Type 0 where
   pub image : IsImage h.image
   pub limits_are : HasLimits h.limits h.image
   pub at_0 : h.base ≡ 0 → h.image ≡ empty h.limits.cells h.limits.sessions h.limits.resources
-  pub ends : Ends h.image h.entries h.core
+  pub ends : LeadsToCore h.image h.entries h.core
   pub fits : last h + spare h.core.machine < 2 ^ 64
   pub cells : length h.core.machine.objects ≡ h.limits.cells
 

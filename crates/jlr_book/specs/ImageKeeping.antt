@@ -19,12 +19,12 @@ abbrev pub image_from : Limits → Option Machine → List Entry → Machine
 image_from limits kept rest = shut (led (kept_from limits kept) rest)
 
 -- cells, at most so many, with nothing in them
-pub record AreFree (cells : Vec (Option Object)) (limit : ℕ) : Type 0 where
+pub record AreEmptyCells (cells : Vec (Option Object)) (limit : ℕ) : Type 0 where
   pub nothing : cells.items ≡ replicate (vec_len cells) None
   pub few : vec_len cells ≤ limit
 
-pub record Keeps (limits : Limits) (kept : Option Machine) (cells : Vec (Option Object)) (entries : Vec Entry)
+pub record KeepsImage (limits : Limits) (kept : Option Machine) (cells : Vec (Option Object)) (entries : Vec Entry)
     (place : ℕ) : Type 0 where
   pub leads : LeadsOn (kept_from limits kept) (drop place entries.items)
-  pub free : AreFree cells limits.cells
+  pub free : AreEmptyCells cells limits.cells
   pub within : place ≤ vec_len entries

@@ -9,7 +9,7 @@ use Rattle.jlr_histories.specs.Owing.{owed}
 use Rattle.jlr_core.specs.Cores.{Kept}
 use Rattle.jlr_book.specs.Histories.{IsHistory}
 
-pub record Keeps {R : Type 0} (limits : Limits) (base : ℕ) (image : Machine) (trace : Vec Entry) (core : Kept R)
+pub record KeepsBook {R : Type 0} (limits : Limits) (base : ℕ) (image : Machine) (trace : Vec Entry) (core : Kept R)
     (cells : ℕ) : Type 0 where
   pub history : IsHistory (record { limits = limits; base = base; image = image; entries = trace.items; core = core })
   -- the end of each call that was begun has its place

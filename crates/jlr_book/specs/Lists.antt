@@ -33,15 +33,15 @@ IsVacant (Bytes room) = Unit {0}
 
 -- the entry of this ask takes its place alone, where nothing is collected, and no file or socket goes in or out: it is
 -- no end, and asks for no list and no resource
-abbrev pub is_brief : Ask → Bool
-is_brief (ask.Names k) = false
-is_brief (ask.Notes k) = false
-is_brief (ask.Faults k) = false
-is_brief (ask.Clean k c) = false
-is_brief (ask.CheckOut k h) = false
-is_brief (ask.Close k h) = false
-is_brief ask.TakeUp = false
-is_brief a = not (is_end a)
+abbrev pub fits_fast_path : Ask → Bool
+fits_fast_path (ask.Names k) = false
+fits_fast_path (ask.Notes k) = false
+fits_fast_path (ask.Faults k) = false
+fits_fast_path (ask.Clean k c) = false
+fits_fast_path (ask.CheckOut k h) = false
+fits_fast_path (ask.Close k h) = false
+fits_fast_path ask.TakeUp = false
+fits_fast_path a = not (is_end a)
 
 -- an event that is no plain ask: the end of an open or a call, or a piece of marking
 abbrev pub hands_in_or_marks : {R : Type 0} → Event R → Bool

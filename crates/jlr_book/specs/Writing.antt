@@ -20,7 +20,7 @@ abbrev pub Stands : {R : Type 0} → Kept R → Type 0
 Stands core = (m : Machine) × StandsIn core m × IsWellFormed m
 
 -- a step of the core, and its entry behind the others
-pub record Writes {R : Type 0} (seat : ℕ) (old : Kept R) (entries : List Entry) (event : Event R) (reply : Reply R)
+pub record WritesEntry {R : Type 0} (seat : ℕ) (old : Kept R) (entries : List Entry) (event : Event R) (reply : Reply R)
     (new : Kept R) (entries' : List Entry) : Type 0 where
   pub chosen : Chosen
   pub step : IsStep old event reply chosen new
@@ -37,7 +37,7 @@ pub record Refuses {R : Type 0} (old : Kept R) (entries : List Entry) (event : E
 -- an end: one of the two, as its answer says
 abbrev pub WritesEnd : {R : Type 0} → ℕ → Kept R → List Entry → Event R → Reply R → Kept R → List Entry → Type 0
 WritesEnd seat old entries event reply new entries' =
-    (Writes seat old entries event reply new entries' × ((by : Refusal) → answer_in reply ≢ Some (Refused by)))
+    (WritesEntry seat old entries event reply new entries' × ((by : Refusal) → answer_in reply ≢ Some (Refused by)))
     ⊎ Refuses old entries event reply new entries'
 
 -- a piece of marking: a step of the core alone

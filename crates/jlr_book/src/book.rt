@@ -6,15 +6,15 @@ ghost use Rattle.jlr_machine.specs.Refusals.{is_end, refusal};
 ghost use Rattle.jlr_event.specs.Asks.{hands_in};
 ghost use Rattle.jlr_event.specs.Events.{ask_of};
 ghost use Rattle.jlr_core.specs.Events.{handed_out, take_up_answered};
-ghost use Rattle.jlr_book.specs.Due.{IsDue};
-ghost use Rattle.jlr_book.specs.Lists.{hands_in_or_marks, is_brief};
+ghost use Rattle.jlr_book.specs.Due.{IsCycleDue};
+ghost use Rattle.jlr_book.specs.Lists.{hands_in_or_marks, fits_fast_path};
 ghost use Rattle.jlr_book.specs.Histories.{last, HasNumbers, IsHistory, IsNewBook};
 ghost use Rattle.jlr_book.specs.Rules.{AsksBy, BookSteps, Cuts, EndsBy, MarksBy};
 ghost use Rattle.jlr_book.specs.Writing.{Pieces};
 
 use crate::cut::cut_to_image;
 use crate::entry::{
-    is_refused, record, record_asked_end, record_briefly, record_end, take_up_answer,
+    is_refused, record, record_asked_end, record_end, record_in_place, take_up_answer,
 };
 use crate::event::{decline, is_end};
 use crate::image::image::Image;
@@ -53,7 +53,7 @@ pub struct Book<R> {
 
 impl<R> Model for Book<R> {
     ghost use Rattle.jlr_book.specs.Histories.{History};
-    ghost use Rattle.jlr_book.specs.Keeping.{Keeps};
+    ghost use Rattle.jlr_book.specs.Keeping.{KeepsBook};
 
     ghost Value = { History R };
 
@@ -65,7 +65,7 @@ impl<R> Model for Book<R> {
       core = b.core;
     } };
 
-    ghost invariant = { λ b. Keeps b.limits b.base b.image b.trace b.core b.choice.cells };
+    ghost invariant = { λ b. KeepsBook b.limits b.base b.image b.trace b.core b.choice.cells };
 }
 
 impl<R: Drop> Book<R> {
@@ -171,7 +171,7 @@ impl<R: Drop> Book<R> {
     /// Whether a cycle is to begin: none is open, and of the cells a quarter or more was taken since a collection
     /// finished last.
     pub fn marker_due(&self) -> bool
-        ensures { IsTrue result ↔ IsDue self.now }
+        ensures { IsTrue result ↔ IsCycleDue self.now }
     {
         let taken = u64::from(self.core.since_collection());
         !self.core.cycle_open() && u64::from(self.limits.cells) <= 4 * taken
@@ -212,12 +212,12 @@ impl<R: Drop> Book<R> {
             return self.step_with_resource(seat, event, room);
         };
         let ask = ask.into_ask();
-        if is_brief(&ask)
+        if fits_fast_path(&ask)
             && self.has_numbers()
-            && has_places(&self.trace, self.limits.trace)
+            && has_reserved_places(&self.trace, self.limits.trace)
             && !self.core.will_collect(&ask)
         {
-            let answer = record_briefly(
+            let answer = record_in_place(
                 &mut self.core,
                 &mut self.choice,
                 self.alloc,
@@ -230,13 +230,13 @@ impl<R: Drop> Book<R> {
                 resource: None,
             };
         }
-        self.step_at_length(seat, ask)
+        self.step_slow(seat, ask)
     }
 
     /// The same for any ask that hands in no resource: the room of its entry is made first, and the trace is cut where
     /// it is as long as it may be.
     #[inline(never)]
-    fn step_at_length(&mut self, seat: u8, ask: Ask) -> Reply<R>
+    fn step_slow(&mut self, seat: u8, ask: Ask) -> Reply<R>
         requires plain { hands_in ask ≡ false }
         ensures { BookSteps seat self.old (Event.Ask ask) result self.new }
     {
@@ -298,7 +298,7 @@ impl<R: Drop> Book<R> {
 impl<R: Drop> Book<R> {
     /// Why an ask that is no end is declined for which there is no memory: for that, unless fewer than 1,024 numbers
     /// are left.
-    pub fn wanting(&self) -> Refusal
+    pub fn memory_refusal(&self) -> Refusal
         ensures { (HasNumbers self.now × (result ≡ Refusal.NoMemory))
             ⊎ ((2 ^ 64 ≤ last self.now + 1024) × (result ≡ Refusal.Exhausted)) }
     {
@@ -318,7 +318,7 @@ impl<R: Drop> Book<R> {
 
     /// A step of the handler, if its entry finds its place and nothing has to be cut: what `step` does for `HandOver`
     /// then. Else nothing is done.
-    pub fn hand_over_briefly(&mut self, seat: u8) -> Option<Handed>
+    pub fn try_hand_over(&mut self, seat: u8) -> Option<Handed>
         ensures { MatchOption result (self.new ≡ self.old)
             (λ handed. BookSteps seat self.old (Event.Ask Ask.HandOver) (Reply.Answered (Answer.Handed handed) None)
             self.new) }
@@ -336,7 +336,7 @@ impl<R: Drop> Book<R> {
             (λ handed. BookSteps seat self.old (Event.Ask Ask.HandOver) (Reply.Answered (Answer.Handed handed) None)
             self.new) }
     {
-        if !self.has_numbers() || !has_places(&self.trace, self.limits.trace) {
+        if !self.has_numbers() || !has_reserved_places(&self.trace, self.limits.trace) {
             return None;
         }
         let handed = self.core.hand_over();
@@ -351,7 +351,7 @@ impl<R: Drop> Book<R> {
 
     /// A step of the cleaner, if its entry finds its place and nothing has to be cut: what `step` does for `TakeUp`
     /// then. Else nothing is done.
-    pub fn take_up_briefly(&mut self, seat: u8) -> Option<Result<Option<Job<R>>, Refusal>>
+    pub fn try_take_up(&mut self, seat: u8) -> Option<Result<Option<Job<R>>, Refusal>>
         ensures { MatchOption result (self.new ≡ self.old)
             (λ taken. BookSteps seat self.old (Event.Ask Ask.TakeUp)
             (Reply.Answered (take_up_answered taken) (handed_out taken)) self.new) }
@@ -369,7 +369,7 @@ impl<R: Drop> Book<R> {
             (λ taken. BookSteps seat self.old (Event.Ask Ask.TakeUp)
             (Reply.Answered (take_up_answered taken) (handed_out taken)) self.new) }
     {
-        if !self.has_numbers() || !has_places(&self.trace, self.limits.trace) {
+        if !self.has_numbers() || !has_reserved_places(&self.trace, self.limits.trace) {
             return None;
         }
         let taken = self.core.take_up();
@@ -501,7 +501,7 @@ impl<R: Drop> Book<R> {
 
 /// Whether a trace of at most so many entries has a place for one more, and for each end that may be owed then.
 #[inline(always)]
-fn has_places(trace: &Vec<Entry>, limit: u32) -> bool
+fn has_reserved_places(trace: &Vec<Entry>, limit: u32) -> bool
     ensures { MatchBool result ((vec_len trace.now < limit) × (vec_len trace.now + 130 ≤ vec_capacity trace.now))
         ((limit ≤ vec_len trace.now) ⊎ (vec_capacity trace.now < vec_len trace.now + 130)) }
 {
@@ -511,8 +511,8 @@ fn has_places(trace: &Vec<Entry>, limit: u32) -> bool
 /// Whether the entry of an ask needs no more than its place, unless it collects, and no resource goes in or out: it is
 /// no end, and asks for no list and no resource.
 #[inline(always)]
-fn is_brief(ask: &Ask) -> bool
-    ensures { result ≡ is_brief ask.now }
+fn fits_fast_path(ask: &Ask) -> bool
+    ensures { result ≡ fits_fast_path ask.now }
 {
     match ask {
         Ask::Names { .. } | Ask::Notes { .. } | Ask::Faults { .. } => false,

@@ -3,7 +3,7 @@ ghost use Rattle.std.specs.Prelude.{◌≡◌, ◌≤◌, ◌<◌, ◌+◌, ◌^
 ghost use Rattle.std.specs.Prelude.{IfOk, OnOk, OnErr, vec_len, vec_capacity};
 ghost use Rattle.jlr_core.specs.Steps.{Steps};
 ghost use Rattle.jlr_machine.specs.WellFormed.{IsImage};
-ghost use Rattle.jlr_book.specs.Histories.{Ends};
+ghost use Rattle.jlr_book.specs.Histories.{LeadsToCore};
 ghost use Rattle.jlr_book.specs.Rules.{GivesUp};
 ghost use Rattle.jlr_book.specs.Writing.{Stands};
 
@@ -27,7 +27,7 @@ fn move_image<R>(
     image: &mut Image,
 ) -> Result<(), AllocError>
     requires image { IsImage image.old }
-    requires ends { Ends image.old trace.old.items core.now }
+    requires ends { LeadsToCore image.old trace.old.items core.now }
     ensures image { OnOk result (image.new ≡ record core.now.machine { cycle_open = false }) }
     ensures items { OnOk result (trace.new.items ≡ []) }
     ensures room { vec_capacity trace.old ≤ vec_capacity trace.new }
@@ -59,7 +59,7 @@ pub(crate) fn cut_to_image<R: Drop>(
     requires stands { Stands core.old }
     requires choice { length core.old.machine.objects ≤ choice.old.cells }
     requires image { IsImage image.old }
-    requires ends { Ends image.old trace.old.items core.old }
+    requires ends { LeadsToCore image.old trace.old.items core.old }
     ensures used { IfOk result (λ used. used ≡ vec_len trace.old + cond core.old.machine.cycle_open 1 0) }
     ensures image { OnOk result (image.new ≡ record core.old.machine { cycle_open = false }) }
     ensures gives_up { OnOk result (GivesUp core.old.machine.cycle_open core.old core.new) }

@@ -8,9 +8,9 @@ ghost use Rattle.jlr_histories.specs.Collecting.{may_collect};
 ghost use Rattle.jlr_histories.specs.Owing.{owed};
 ghost use Rattle.jlr_histories.specs.Rooms.{HasRoomFor};
 ghost use Rattle.jlr_core.specs.Steps.{IsStep};
-ghost use Rattle.jlr_book.specs.Lists.{is_brief};
+ghost use Rattle.jlr_book.specs.Lists.{fits_fast_path};
 ghost use Rattle.jlr_book.specs.Making.{SuitsEntry};
-ghost use Rattle.jlr_book.specs.Writing.{refuses, Stands, Writes, WritesEnd};
+ghost use Rattle.jlr_book.specs.Writing.{refuses, Stands, WritesEntry, WritesEnd};
 
 use crate::room::{AnswerRoom, ChoiceRoom, EntryRoom, copy_without_room};
 use jlr_cleaner::Job;
@@ -37,7 +37,7 @@ pub(crate) fn record<R: Drop>(
     requires stands { Stands core.old }
     requires choice { length core.old.machine.objects ≤ choice.old.cells }
     requires room { SuitsEntry core.old.machine ask room }
-    ensures writes { Writes seat core.old trace.old.items (Event.Ask ask) result core.new trace.new.items }
+    ensures writes { WritesEntry seat core.old trace.old.items (Event.Ask ask) result core.new trace.new.items }
     ensures cells { length core.new.machine.objects ≡ length core.old.machine.objects }
     ensures room { vec_capacity trace.new ≡ vec_capacity trace.old }
     ensures choice { choice.new.cells ≡ choice.old.cells }
@@ -55,7 +55,7 @@ pub(crate) fn record<R: Drop>(
 /// An entry that needs its place alone, without a collection: its ask is moved there, and the core is lent it. The core
 /// is lent a choice too.
 #[inline(always)]
-pub(crate) fn record_briefly<R>(
+pub(crate) fn record_in_place<R>(
     core: &mut Core<R>,
     lent: &mut Choice,
     alloc: Global,
@@ -63,12 +63,12 @@ pub(crate) fn record_briefly<R>(
     seat: u8,
     ask: Ask,
 ) -> Answer
-    requires brief { is_brief ask ≡ true }
+    requires brief { fits_fast_path ask ≡ true }
     requires place { vec_len trace.old < vec_capacity trace.old }
     requires stands { Stands core.old }
     requires choice { length core.old.machine.objects ≤ lent.old.cells }
     requires plain { may_collect core.old.machine (Some ask) ≡ false }
-    ensures writes { Writes seat core.old trace.old.items (Event.Ask ask) (Reply.Answered result None) core.new
+    ensures writes { WritesEntry seat core.old trace.old.items (Event.Ask ask) (Reply.Answered result None) core.new
         trace.new.items }
     ensures cells { length core.new.machine.objects ≡ length core.old.machine.objects }
     ensures room { vec_capacity trace.new ≡ vec_capacity trace.old }
@@ -94,7 +94,7 @@ fn tell_briefly<R>(
     alloc: Global,
     entry: &mut Entry,
 ) -> Answer
-    requires brief { is_brief entry.old.ask ≡ true }
+    requires brief { fits_fast_path entry.old.ask ≡ true }
     requires stands { Stands core.old }
     requires choice { length core.old.machine.objects ≤ lent.old.cells }
     requires plain { may_collect core.old.machine (Some entry.old.ask) ≡ false }
@@ -126,7 +126,7 @@ pub(crate) fn record_plainly<R: Drop>(
     requires choice { length core.old.machine.objects ≤ lent.old.cells }
     requires room { HasRoomFor ask room }
     requires plain { may_collect core.old.machine (Some ask) ≡ false }
-    ensures writes { Writes seat core.old trace.old.items (Event.Ask ask) result core.new trace.new.items }
+    ensures writes { WritesEntry seat core.old trace.old.items (Event.Ask ask) result core.new trace.new.items }
     ensures cells { length core.new.machine.objects ≡ length core.old.machine.objects }
     ensures room { vec_capacity trace.new ≡ vec_capacity trace.old }
     ensures choice { lent.new.cells ≡ lent.old.cells }
@@ -157,7 +157,7 @@ fn record_collecting<R: Drop>(
     requires stands { Stands core.old }
     requires choice { length core.old.machine.objects ≤ own.value.cells }
     requires room { HasRoomFor ask room }
-    ensures writes { Writes seat core.old trace.old.items (Event.Ask ask) result core.new trace.new.items }
+    ensures writes { WritesEntry seat core.old trace.old.items (Event.Ask ask) result core.new trace.new.items }
     ensures cells { length core.new.machine.objects ≡ length core.old.machine.objects }
     ensures room { vec_capacity trace.new ≡ vec_capacity trace.old }
 {

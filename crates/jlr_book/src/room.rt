@@ -4,7 +4,7 @@ ghost use Rattle.std.specs.Prelude.{◌≡◌, ◌≤◌, true, false, [], IfOk,
 ghost use Rattle.jlr_machine.specs.declared.ask.Answer.{Answer as AnswerOf};
 ghost use Rattle.jlr_machine.specs.Refusals.{is_end};
 ghost use Rattle.jlr_event.specs.Events.{answer_in};
-ghost use Rattle.jlr_histories.specs.Rooms.{Fits, HasRoomFor};
+ghost use Rattle.jlr_histories.specs.Rooms.{FitsRooms, HasRoomFor};
 ghost use Rattle.jlr_book.specs.Lists.{is_long, no_room};
 ghost use Rattle.jlr_book.specs.Making.{SuitsChoice, SuitsEntry};
 
@@ -129,7 +129,7 @@ impl AnswerRoom {
     /// The same list, or what a call read, in the room for it.
     #[inline(never)]
     fn copy_long(&mut self, answer: &Answer) -> Answer
-        requires fits { Fits self.old answer.now }
+        requires fits { FitsRooms self.old answer.now }
         requires long { is_long answer.now ≡ true }
         ensures { result ≡ answer.now }
     {
@@ -162,7 +162,7 @@ impl AnswerRoom {
     /// The same answer. Takes no memory, and the room that it needs.
     #[inline(always)]
     pub fn copy(&mut self, answer: &Answer) -> Answer
-        requires { Fits self.old answer.now }
+        requires { FitsRooms self.old answer.now }
         ensures { result ≡ answer.now }
     {
         match answer {
@@ -176,7 +176,7 @@ impl AnswerRoom {
     /// The same answer as that of a reply. Takes no memory, and the room that it needs.
     #[inline(always)]
     pub(crate) fn copy_of<R>(&mut self, reply: &Reply<R>) -> Answer
-        requires { (answer : AnswerOf) × (answer_in reply.now ≡ Some answer) × Fits self.old answer }
+        requires { (answer : AnswerOf) × (answer_in reply.now ≡ Some answer) × FitsRooms self.old answer }
         ensures { answer_in reply.now ≡ Some result }
     {
         match reply {
@@ -189,7 +189,7 @@ impl AnswerRoom {
 /// The same answer, where it needs no room: it is no list, or an empty one, and nothing that a call read.
 #[inline(never)]
 pub(crate) fn copy_without_room(alloc: Global, answer: &Answer) -> Answer
-    requires { Fits no_room answer.now }
+    requires { FitsRooms no_room answer.now }
     ensures { result ≡ answer.now }
 {
     match answer {

@@ -10,8 +10,8 @@ use Rattle.jlr_machine.specs.declared.machine.Job.{Job}
 use Rattle.jlr_machine.specs.Lookups.{with_job, without_job}
 use Rattle.jlr_cleaner.specs.Jobs.{AreApart, is_running, runs_job}
 
-flip : (a b : ℕ) → eqb a b ≡ false → eqb b a ≡ false
-flip a b apart = ne_eqb b a (λ e. eqb-false a b apart (sym e))
+swapped : (a b : ℕ) → eqb a b ≡ false → eqb b a ≡ false
+swapped a b apart = ne_eqb b a (λ e. eqb-false a b apart (sym e))
 
 -- ---- What holds of each key, and that they differ
 
@@ -42,7 +42,7 @@ module _ (key : Job → ℕ) where
       cond_both (nat_lt new.action job.action) (new ∷ job ∷ jobs) (job ∷ with_job jobs new) (λ l. IsDistinct eqb (map key l))
       (λ _. IsDistinct-cons eqb (key new) (map key (job ∷ jobs)) free distinct)
       (λ _. IsDistinct-cons eqb (key job) (map key (with_job jobs new))
-      (keys-with key (λ y. eqb (key job) y ≡ false) jobs new (flip (key new) (key job) free.0)
+      (keys-with key (λ y. eqb (key job) y ≡ false) jobs new (swapped (key new) (key job) free.0)
       (IsDistinct-head eqb (key job) (map key jobs) distinct))
       (distinct-with jobs new free.1 (IsDistinct-tail eqb (key job) (map key jobs) distinct)))
 
@@ -63,7 +63,7 @@ free_action (job ∷ jobs) action none =
     elim (job.action == action) as (λ b. job.action == action ≡ b
     → is_some (cond b (Some job) (find (λ j. j.action == action) jobs)) ≡ false → IsFree (λ j. j.action) (job ∷ jobs) action) [
       | true ↦ λ _ e. absurd (cc e)
-      | false ↦ λ apart e. (flip job.action action apart, free_action jobs action e)
+      | false ↦ λ apart e. (swapped job.action action apart, free_action jobs action e)
     ] refl none
 
 free_taker : (jobs : List Job) (by : ℕ) → runs_job jobs by ≡ false → IsFree (λ job. job.by) jobs by
@@ -71,7 +71,7 @@ free_taker [] by none = tt
 free_taker (job ∷ jobs) by none =
     elim (job.by == by) as (λ b. job.by == by ≡ b → b || runs_job jobs by ≡ false → IsFree (λ j. j.by) (job ∷ jobs) by) [
       | true ↦ λ _ e. absurd (cc e)
-      | false ↦ λ apart e. (flip job.by by apart, free_taker jobs by e)
+      | false ↦ λ apart e. (swapped job.by by apart, free_taker jobs by e)
     ] refl none
 
 -- ---- The jobs

@@ -5,7 +5,7 @@ use Rattle.std.specs.Int.{w64}
 use Rattle.std.specs.Fmt.{signed_decimal}
 use Rattle.jlr_types.specs.declared.FieldKind.{FieldKind}
 use Rattle.jlr_device.specs.declared.device.Mode.{Mode as ModeOf}
-use Rattle.jlr_wire.specs.Texts.{IsPath, IsName, AreDigits}
+use Rattle.jlr_wire.specs.Texts.{IsPathText, IsNameText, AreDigits}
 use Rattle.jlr_wire.specs.Commands.{layout, mode_letter, IsCommand}
 use Rattle.jlr_wire.specs.declared.command.Command.{Command}
 use Rattle.jlr_client.specs.declared.manual.form.Form.{Form}
@@ -119,10 +119,10 @@ IsOperand Field text = (k : ℕ) × (k < 4096) × (text ≡ decimal k)
 IsOperand Integer text = (n : ℤ) × FitsSigned w64 n × (text ≡ signed_decimal n)
 IsOperand Note text = (n : ℕ) × (n < 2 ^ 32) × (text ≡ decimal n)
 IsOperand Mode text = (m : ModeOf) × (text ≡ mode_letter m)
-IsOperand Path text = IsPath text
+IsOperand Path text = IsPathText text
 IsOperand Count text = (n : ℕ) × (1 ≤ n) × (n ≤ 200) × (text ≡ decimal n)
 IsOperand Bytes text = (bytes : List ℕ) × AreDigits text bytes
-IsOperand Name text = IsName text
+IsOperand Name text = IsNameText text
 
 -- the texts are these operands, in order
 abbrev pub AreOperands : List Operand → List (List ℕ) → Type 0

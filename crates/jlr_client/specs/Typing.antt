@@ -10,11 +10,11 @@ is_own line = bytes_eq (take 1 line) (codes ".") || bytes_eq line (codes "help")
     || bytes_eq (take 5 line) (codes "help ")
 
 -- A line of which the client carries out just this word, or this word and what follows it.
-abbrev pub IsWord : List ℕ → List ℕ → Type 0
-IsWord word line = bytes_eq line word ≡ true
+abbrev pub IsTypedWord : List ℕ → List ℕ → Type 0
+IsTypedWord word line = bytes_eq line word ≡ true
 
-abbrev pub Begins : List ℕ → List ℕ → List ℕ → Type 0
-Begins word line rest = (bytes_eq (take (length word) line) word ≡ true) × (rest ≡ drop (length word) line)
+abbrev pub BeginsWith : List ℕ → List ℕ → List ℕ → Type 0
+BeginsWith word line rest = (bytes_eq (take (length word) line) word ≡ true) × (rest ≡ drop (length word) line)
 
 -- it is none of those
 abbrev pub IsNoWord : List ℕ → Type 0
@@ -24,10 +24,10 @@ IsNoWord line =
 
 abbrev pub IsOwnWord : List ℕ → Typed → Type 0
 IsOwnWord line (Line sent) = ⊥
-IsOwnWord line Help = IsWord (codes "help") line
-IsOwnWord line (HelpOf word) = Begins (codes "help ") line word.now
-IsOwnWord line (Save file) = Begins (codes ".save ") line file.now
-IsOwnWord line Quit = IsWord (codes ".quit") line
+IsOwnWord line Help = IsTypedWord (codes "help") line
+IsOwnWord line (HelpOf word) = BeginsWith (codes "help ") line word.now
+IsOwnWord line (Save file) = BeginsWith (codes ".save ") line file.now
+IsOwnWord line Quit = IsTypedWord (codes ".quit") line
 IsOwnWord line Unknown = IsNoWord line
 
 -- What goes to the server is what was typed, and no line for the client is; what the client does is what was typed.

@@ -8,7 +8,7 @@ use Rattle.jlr_types.specs.Ranges.{is_within}
 use Rattle.jlr_machine.specs.declared.machine.Machine.{Machine}
 use Rattle.jlr_laws.proofs.Frames.{no_some}
 use Rattle.jlr_book.specs.Histories.{HasLimits}
-use Rattle.jlr_trace.specs.Ranges.{AreLimits}
+use Rattle.jlr_trace.specs.Ranges.{LimitsInRange}
 
 passes : (b : Bool) (rest : Option LimitFault) (fault : LimitFault) → cond b rest (Some fault) ≡ None → (b ≡ true) × (rest ≡ None)
 passes true rest fault e = (refl, e)
@@ -19,7 +19,7 @@ lies_within low high n e =
     let both = and_parts (nat_le low n) (nat_le n high) e in
     (leb-true low n both.0, leb-true n high both.1)
 
-pub are_limits : (limits : Limits) (m : Machine) → HasLimits limits m → AreLimits m
+pub are_limits : (limits : Limits) (m : Machine) → HasLimits limits m → LimitsInRange m
 are_limits limits m h =
     let cells = passes (is_within 16 65536 limits.cells) _ Cells limits.in_range in
     let sessions = passes (is_within 1 64 limits.sessions) _ Sessions cells.1 in

@@ -40,9 +40,9 @@ IsUnread (program.NoMemory error) = Unit {0}
 IsUnread _ = ⊥
 
 -- what a fault of a stream is to the program
-abbrev pub IsTold : StreamFault → ProgramFault → Type 0
-IsTold (Unread kind) fault = IsUnread fault
-IsTold (Damaged first) fault = fault ≡ damage first
+abbrev pub TellsStreamFault : StreamFault → ProgramFault → Type 0
+TellsStreamFault (Unread kind) fault = IsUnread fault
+TellsStreamFault (Damaged first) fault = fault ≡ damage first
 
 -- ---- Of all bytes that a reader gives, where they are known
 

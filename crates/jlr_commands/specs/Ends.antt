@@ -23,5 +23,5 @@ abbrev pub IsOutcome : SessionEnd → Result (Unit {0}) ProgramFault → Type 0
 IsOutcome end result = MatchResult result (λ _. fault_after end ≡ None) (λ fault. fault_after end ≡ Some fault)
 
 -- there was no memory for the session
-abbrev pub IsOutOfMemory : Result (Unit {0}) ProgramFault → Type 0
-IsOutOfMemory result = IsErrAnd result (λ fault. (status_of fault ≡ 5) × (fault ≢ NotJoined))
+abbrev pub SessionOutOfMemory : Result (Unit {0}) ProgramFault → Type 0
+SessionOutOfMemory result = IsErrAnd result (λ fault. (status_of fault ≡ 5) × (fault ≢ NotJoined))

@@ -1,6 +1,6 @@
 //! The file of a saved history.
 ghost use Rattle.std.specs.Prelude.{◌≡◌, IfErr};
-ghost use Rattle.jlr_commands.specs.Audits.{IsTold, IsUnread, damage};
+ghost use Rattle.jlr_commands.specs.Audits.{TellsStreamFault, IsUnread, damage};
 
 use jlr_command_line::fault::ProgramFault;
 use jlr_command_line::reason::{Place, Reason};
@@ -36,7 +36,7 @@ fn damage_of(fault: TraceFault) -> ProgramFault
 
 /// Why a file that was not read to its end, or is no trace file, ends the program.
 pub(crate) fn fault_of(alloc: Global, path: &str, fault: StreamFault) -> ProgramFault
-    ensures { IsTold fault result }
+    ensures { TellsStreamFault fault result }
 {
     match fault {
         StreamFault::Unread(kind) => unread(alloc, path, kind),

@@ -2,7 +2,7 @@
 ghost use Rattle.std.specs.Prelude.{◌≡◌, ◌≤◌, List, ℕ, length, IfOk, IsErr};
 ghost use Rattle.std.specs.Io.KnownBytes.{Appends, Consumes};
 ghost use Rattle.jlr_prog.specs.Books.{History};
-ghost use Rattle.jlr_prog.specs.Histories.{IsSession};
+ghost use Rattle.jlr_prog.specs.Histories.{IsWholeSession};
 ghost use Rattle.jlr_commands.specs.Saving.{IsSaved};
 ghost use Rattle.jlr_session.specs.Limits.{FindsEnd, most_bytes};
 ghost use Rattle.jlr_session.specs.declared.shell.SessionEnd.{SessionEnd as SessionEndOf};
@@ -53,7 +53,7 @@ where
         × Consumes (R.remaining reader.old) (R.remaining reader.new) bytes
         × Appends (W.contents writer.old) (W.contents writer.new) out
         × (length bytes ≤ most_bytes)
-        × IsSession (record {
+        × IsWholeSession (record {
           count =
               D.count;
           opens = D.may_open;

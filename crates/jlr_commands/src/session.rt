@@ -2,10 +2,10 @@
 ghost use Rattle.std.specs.Prelude.{◌≡◌, ◌≤◌, ◌⊎◌, List, ℕ, length, MatchResult, None, Some};
 ghost use Rattle.std.specs.Io.KnownBytes.{Appends, Consumes};
 ghost use Rattle.jlr_prog.specs.Books.{History};
-ghost use Rattle.jlr_prog.specs.Histories.{IsSession};
+ghost use Rattle.jlr_prog.specs.Histories.{IsWholeSession};
 ghost use Rattle.jlr_session.specs.Limits.{FindsEnd, most_bytes};
 ghost use Rattle.jlr_session.specs.declared.shell.SessionEnd.{SessionEnd};
-ghost use Rattle.jlr_commands.specs.Ends.{IsOutOfMemory, IsOutcome, fault_after};
+ghost use Rattle.jlr_commands.specs.Ends.{SessionOutOfMemory, IsOutcome, fault_after};
 
 use jlr_command_line::fault::ProgramFault;
 use jlr_device::Device;
@@ -29,12 +29,13 @@ pub fn session<R: Read, W: Write, D: Device>(
 ) -> Result<(), ProgramFault>
 where
     D::Res: Drop,
-    ensures { (IsOutOfMemory result × (reader.new ≡ reader.old) × (writer.new ≡ writer.old) × (device.new ≡ device.old))
+    ensures { (SessionOutOfMemory result × (reader.new ≡ reader.old) × (writer.new ≡ writer.old)
+        × (device.new ≡ device.old))
         ⊎ ((end : SessionEnd) × (book : History D.Res) × (bytes : List ℕ) × (out : List ℕ) × IsOutcome end result
         × Consumes (R.remaining reader.old) (R.remaining reader.new) bytes
         × Appends (W.contents writer.old) (W.contents writer.new) out
         × (length bytes ≤ most_bytes)
-        × IsSession (record {
+        × IsWholeSession (record {
           count =
               D.count;
           opens = D.may_open;

@@ -22,7 +22,7 @@ use Rattle.jlr_histories.proofs.Promises.{runs_keep_the_promises}
 use Rattle.jlr_event.specs.declared.event.Event.{Event}
 use Rattle.jlr_event.specs.declared.event.Reply.{Reply}
 use Rattle.jlr_event.specs.Events.{ask_of, answer_in, resource_of_event, resource_of_reply}
-use Rattle.jlr_state.specs.Events.{entry_with, Enters}
+use Rattle.jlr_state.specs.Events.{entry_with, EntersLegally}
 use Rattle.jlr_core.specs.Cores.{Kept, StandsIn}
 use Rattle.jlr_core.specs.Steps.{IsEmpty, IsStep}
 use Rattle.jlr_core.specs.Runs.{entries_of, AreAnswered, AreSteps, IsRunOf, resources_of_events, resources_of_replies}
@@ -63,7 +63,7 @@ answered_more (x ∷ events) (y ∷ replies) [] e r c a h = absurd a
 
 -- ---- One step
 
-entered : (m : Machine) (ask : Option Ask) (answer : Option Answer) (chosen : Chosen) (n : Machine) → Enters m ask answer chosen n
+entered : (m : Machine) (ask : Option Ask) (answer : Option Answer) (chosen : Chosen) (n : Machine) → EntersLegally m ask answer chosen n
     → Run m (option_to_list (entry_with ask answer chosen)) n × (is_some answer ≡ is_some ask)
 entered m (Some ask) (Some answer) chosen n e = ((e.0, e.1), refl)
 entered m (Some ask) None chosen n e = absurd e

@@ -26,7 +26,7 @@ use Rattle.jlr_event.specs.declared.event.Reply.{Reply}
 use Rattle.jlr_event.specs.Events.{ask_of, answer_in}
 use Rattle.jlr_core.specs.Cores.{Kept}
 use Rattle.jlr_core.specs.Cycles.{CountsItsCycles, GoesThrough, IsInCycle, TakesAtMost, blackened_in, made_in, ticks_in}
-use Rattle.jlr_state.specs.Marks.{MarksBy, MarksStay, budget_of, has_grey, ticks_between}
+use Rattle.jlr_state.specs.Marks.{AnswersPiece, MarksStay, budget_of, has_grey, ticks_between}
 use Rattle.jlr_state.specs.Policy.{KeepsByPolicy, KeepsMarked}
 use Rattle.jlr_core.specs.Steps.{IsStep}
 
@@ -150,7 +150,7 @@ module _ {R : Type 0} (old : Kept R) (e : Event R) (r : Reply R) (c : Chosen) (n
       (ticks_between old.machine.objects old.marking new.marking) progress old.marking new.marking
 
   abbrev answered : Option ℕ → Type 0
-  answered b = MarksBy b old.soft_age old.clock old.machine old.marking old.condemned r new.marking new.condemned
+  answered b = AnswersPiece b old.soft_age old.clock old.machine old.marking old.condemned r new.marking new.condemned
 
   marks_on : (budget : ℕ) → answered (Some budget) → (progress : Progress) × marks budget progress
   marks_on budget m = (

@@ -12,10 +12,10 @@ use Rattle.jlr_event.specs.declared.event.Event.{Event}
 use Rattle.jlr_event.specs.declared.event.Reply.{Reply}
 use Rattle.jlr_event.specs.Events.{ask_of, answer_in, resource_of_event, resource_of_reply}
 use Rattle.jlr_core.specs.Cores.{Kept, StandsIn}
-use Rattle.jlr_state.specs.Events.{Enters, WantsMemory}
+use Rattle.jlr_state.specs.Events.{EntersLegally, WantsMemory}
 use Rattle.jlr_state.specs.Flows.{Conserves, GoesOut, Moves}
 use Rattle.jlr_state.specs.Policy.{KeepsByPolicy, clock_after}
-use Rattle.jlr_state.specs.Marks.{Begins, BlackensNew, MarksBy, budget_of, has_grey}
+use Rattle.jlr_state.specs.Marks.{Begins, BlackensNew, AnswersPiece, budget_of, has_grey}
 
 -- The core of the empty machine of these limits, whose first action number is this one, with no file or socket.
 pub record IsEmpty {R : Type 0} (cells sessions limit soft_age first : ℕ) (core : Kept R) : Type 0 where
@@ -34,7 +34,7 @@ LeavesRoom ask old new = new.room ≡ old.room
 -- then stands for the machine after it.
 pub record IsStep {R : Type 0} (old : Kept R) (event : Event R) (reply : Reply R) (chosen : Chosen)
     (new : Kept R) : Type 0 where
-  pub entry : (m : Machine) → StandsIn old m → (n : Machine) × Enters m (ask_of event) (answer_in reply) chosen n
+  pub entry : (m : Machine) → StandsIn old m → (n : Machine) × EntersLegally m (ask_of event) (answer_in reply) chosen n
       × StandsIn new n
   pub cells : length new.machine.objects ≡ length old.machine.objects
   -- no file or socket is made or lost; at one Rid at most lies something else then, and what goes out is what lay
@@ -49,7 +49,8 @@ pub record IsStep {R : Type 0} (old : Kept R) (event : Event R) (reply : Reply R
   -- a cycle begins with its roots; a piece of marking ticks for each part that it follows, or sweeps; any other event
   -- blackens just the objects that it makes
   pub begins : Begins (ask_of event) old.machine new.machine new.marking
-  pub marking : MarksBy (budget_of event) old.soft_age old.clock old.machine old.marking old.condemned reply new.marking
+  pub marking : AnswersPiece (budget_of event) old.soft_age old.clock old.machine old.marking old.condemned reply
+      new.marking
       new.condemned
   pub blackens : BlackensNew event old.machine old.marking chosen new.machine new.marking
   -- a Collect is answered yes exactly where a cycle is open and no cell is grey

@@ -7,8 +7,8 @@ ghost use Rattle.jlr_state.specs.State.{answer_of};
 ghost use Rattle.jlr_state.specs.Machines.{machine_of};
 ghost use Rattle.jlr_event.specs.Asks.{hands_in};
 ghost use Rattle.jlr_event.specs.Events.{ask_of, answer_in, resource_of_event, resource_of_reply};
-ghost use Rattle.jlr_state.specs.Events.{StepsBy, WantsMemory, carries_none};
-ghost use Rattle.jlr_state.specs.Marks.{Begins, BlackensNew, MarksBy, MarksReached, budget_of, has_grey};
+ghost use Rattle.jlr_state.specs.Events.{StepsMachine, WantsMemory, carries_none};
+ghost use Rattle.jlr_state.specs.Marks.{Begins, BlackensNew, AnswersPiece, MarksReached, budget_of, has_grey};
 ghost use Rattle.jlr_state.specs.Flows.{Conserves, GoesOut, Moves};
 ghost use Rattle.jlr_core.specs.Steps.{LeavesRoom};
 ghost use Rattle.jlr_state.specs.TakeUps.{clean_answer, handed_out, take_up_answered};
@@ -30,7 +30,7 @@ pub(crate) fn step<R>(state: &mut State<R>, event: Event<R>, choice: &mut Choice
     requires waits { AllWait (machine_of state.old) state.old.cleaner.waiting }
     requires nothing { choice.old ≡ nothing_chosen choice.old.cells }
     requires room { length state.old.heap.graph.objects ≤ choice.old.cells }
-    ensures entry { StepsBy (machine_of state.old) state.old.heap.marking (ask_of event) (answer_in result)
+    ensures entry { StepsMachine (machine_of state.old) state.old.heap.marking (ask_of event) (answer_in result)
         choice.new.chosen (machine_of state.new) }
     ensures flow { Conserves (resource_of_event event) state.old.cleaner.table (resource_of_reply result)
         state.new.cleaner.table }
@@ -43,7 +43,7 @@ pub(crate) fn step<R>(state: &mut State<R>, event: Event<R>, choice: &mut Choice
     ensures reached { MarksReached (machine_of state.old) state.old.heap.marking (machine_of state.new)
         state.new.heap.marking }
     ensures begins { Begins (ask_of event) (machine_of state.old) (machine_of state.new) state.new.heap.marking }
-    ensures marking { MarksBy (budget_of event) state.old.soft_age state.old.heap.clock (machine_of state.old)
+    ensures marking { AnswersPiece (budget_of event) state.old.soft_age state.old.heap.clock (machine_of state.old)
         state.old.heap.marking state.old.heap.condemned result state.new.heap.marking state.new.heap.condemned }
     ensures blackens { BlackensNew event (machine_of state.old) state.old.heap.marking choice.new.chosen
         (machine_of state.new) state.new.heap.marking }
@@ -79,7 +79,7 @@ pub(crate) fn step_ask<R>(state: &mut State<R>, ask: &Ask, choice: &mut Choice) 
     requires waits { AllWait (machine_of state.old) state.old.cleaner.waiting }
     requires nothing { choice.old ≡ nothing_chosen choice.old.cells }
     requires room { length state.old.heap.graph.objects ≤ choice.old.cells }
-    ensures entry { StepsBy (machine_of state.old) state.old.heap.marking (Some ask.now)
+    ensures entry { StepsMachine (machine_of state.old) state.old.heap.marking (Some ask.now)
         (answer_in result) choice.new.chosen (machine_of state.new) }
     ensures flow { Conserves None state.old.cleaner.table (resource_of_reply result) state.new.cleaner.table }
     ensures moves { Moves None state.old.cleaner.table (resource_of_reply result) state.new.cleaner.table }
@@ -119,7 +119,7 @@ pub(crate) fn step_ask<R>(state: &mut State<R>, ask: &Ask, choice: &mut Choice) 
 pub(crate) fn step_handler<R>(state: &mut State<R>) -> Handed
     requires fit { IsWellFormed (machine_of state.old) }
     requires waits { AllWait (machine_of state.old) state.old.cleaner.waiting }
-    ensures entry { StepsBy (machine_of state.old) state.old.heap.marking (Some Ask.HandOver)
+    ensures entry { StepsMachine (machine_of state.old) state.old.heap.marking (Some Ask.HandOver)
         (Some (Answer.Handed result)) no_choice (machine_of state.new) }
     ensures flow { Conserves None state.old.cleaner.table None state.new.cleaner.table }
     ensures moves { Moves None state.old.cleaner.table None state.new.cleaner.table }
@@ -146,7 +146,7 @@ pub(crate) fn step_handler<R>(state: &mut State<R>) -> Handed
 pub(crate) fn step_cleaner<R>(state: &mut State<R>) -> Result<Option<Job<R>>, Refusal>
     requires fit { IsWellFormed (machine_of state.old) }
     requires waits { AllWait (machine_of state.old) state.old.cleaner.waiting }
-    ensures entry { StepsBy (machine_of state.old) state.old.heap.marking (Some Ask.TakeUp)
+    ensures entry { StepsMachine (machine_of state.old) state.old.heap.marking (Some Ask.TakeUp)
         (Some (take_up_answered result)) no_choice (machine_of state.new) }
     ensures flow { Conserves None state.old.cleaner.table (handed_out result) state.new.cleaner.table }
     ensures moves { Moves None state.old.cleaner.table (handed_out result) state.new.cleaner.table }
@@ -179,7 +179,7 @@ pub(crate) fn step_finish<R>(
 ) -> Answer
     requires fit { IsWellFormed (machine_of state.old) }
     requires waits { AllWait (machine_of state.old) state.old.cleaner.waiting }
-    ensures entry { StepsBy (machine_of state.old) state.old.heap.marking (Some (Ask.Finish by action outcome))
+    ensures entry { StepsMachine (machine_of state.old) state.old.heap.marking (Some (Ask.Finish by action outcome))
         (Some result) no_choice (machine_of state.new) }
     ensures flow { Conserves None state.old.cleaner.table None state.new.cleaner.table }
     ensures moves { Moves None state.old.cleaner.table None state.new.cleaner.table }
@@ -212,7 +212,7 @@ pub(crate) fn step_plain<R>(state: &mut State<R>, ask: &Ask, choice: &mut Choice
     requires waits { AllWait (machine_of state.old) state.old.cleaner.waiting }
     requires nothing { choice.old ≡ nothing_chosen choice.old.cells }
     requires room { length state.old.heap.graph.objects ≤ choice.old.cells }
-    ensures entry { StepsBy (machine_of state.old) state.old.heap.marking (Some ask.now)
+    ensures entry { StepsMachine (machine_of state.old) state.old.heap.marking (Some ask.now)
         (Some result) choice.new.chosen (machine_of state.new) }
     ensures flow { Conserves None state.old.cleaner.table None state.new.cleaner.table }
     ensures moves { Moves None state.old.cleaner.table None state.new.cleaner.table }
@@ -247,7 +247,7 @@ fn answer<R>(state: &mut State<R>, ask: &Ask, choice: &mut Choice) -> Result<Ans
     requires waits { AllWait (machine_of state.old) state.old.cleaner.waiting }
     requires nothing { choice.old ≡ nothing_chosen choice.old.cells }
     requires room { length state.old.heap.graph.objects ≤ choice.old.cells }
-    ensures entry { StepsBy (machine_of state.old) state.old.heap.marking (Some ask.now)
+    ensures entry { StepsMachine (machine_of state.old) state.old.heap.marking (Some ask.now)
         (Some (answer_of result)) choice.new.chosen (machine_of state.new) }
     ensures flow { Conserves None state.old.cleaner.table None state.new.cleaner.table }
     ensures moves { Moves None state.old.cleaner.table None state.new.cleaner.table }

@@ -10,7 +10,7 @@ ghost use Rattle.jlr_core.specs.Steps.{IsEmpty, IsStep};
 ghost use Rattle.jlr_state.specs.TakeUps.{handed_out, take_up_answered};
 
 use crate::dispatch::{step, step_ask, step_cleaner, step_finish, step_handler, step_plain};
-use crate::looks;
+use crate::queries;
 use jlr_cleaner::Job;
 use jlr_event::event::{Event, Reply};
 use jlr_machine::ask::{Answer, Ask, Handed, Outcome};
@@ -160,28 +160,28 @@ impl<R> Core<R> {
     pub fn will_collect(&self, ask: &Ask) -> bool
         ensures { result ≡ may_collect self.now.machine (Some ask.now) }
     {
-        looks::will_collect(&self.state, ask)
+        queries::will_collect(&self.state, ask)
     }
 
     /// Whether a `Remove` of a mutator on a queue would be refused `WouldWait`.
     pub fn would_wait(&self, by: Mutator, queue: Handle) -> bool
         ensures { IsTrue result ↔ (refusal self.now.machine (Ask.Remove by queue) ≡ Some Refusal.WouldWait) }
     {
-        looks::would_wait(&self.state, by, queue)
+        queries::would_wait(&self.state, by, queue)
     }
 
     /// Whether nothing is pending, so that a step of the handler would find nothing.
     pub fn pending_empty(&self) -> bool
         ensures { IsTrue result ↔ (self.now.machine.pending ≡ []) }
     {
-        looks::pending_empty(&self.state)
+        queries::pending_empty(&self.state)
     }
 
     /// Whether nothing stands in the cleaner's line, so that the cleaner would find nothing to take up.
     pub fn line_empty(&self) -> bool
         ensures { IsTrue result ↔ (self.now.machine.line ≡ []) }
     {
-        looks::line_empty(&self.state)
+        queries::line_empty(&self.state)
     }
 
     /// Whether a cycle is open.

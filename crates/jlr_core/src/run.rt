@@ -34,9 +34,9 @@ pub fn run<R: Drop>(
     let mut core = Core::new(alloc, limits)?;
     match answer_all(alloc, limits, &mut core, &mut choice, events) {
         Ok(replies) => Ok((replies, core)),
-        Err(wanting) => {
+        Err(memory_refusal) => {
             drop(core);
-            Err(wanting)
+            Err(memory_refusal)
         }
     }
 }

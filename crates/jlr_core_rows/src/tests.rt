@@ -69,7 +69,7 @@ fn replies_to(
 ) -> Result<Vec<Reply<u32>>, AllocError> {
     match run(alloc, limits, events) {
         Ok(ran) => Ok(replies_of(ran)),
-        Err(wanting) => Err(wanting),
+        Err(memory_refusal) => Err(memory_refusal),
     }
 }
 
@@ -77,7 +77,7 @@ fn replies_to(
 fn image_after(alloc: Global, limits: Limits, asks: &str) -> Result<Machine, AllocError> {
     match run(alloc, limits, events_of(alloc, asks)?) {
         Ok(ran) => image_of(alloc, ran),
-        Err(wanting) => Err(wanting),
+        Err(memory_refusal) => Err(memory_refusal),
     }
 }
 

@@ -6,8 +6,8 @@ abbrev pub Counts : {T E : Type 0} → ℕ → Result T E → ℕ → Type 0
 Counts old result new = new ≡ old + cond (is_err result) 1 0
 
 -- one failure more can be counted
-abbrev pub Fits : ℕ → Type 0
-Fits count = count + 1 < 2 ^ 64
+abbrev pub CountsOneMore : ℕ → Type 0
+CountsOneMore count = count + 1 < 2 ^ 64
 
 -- the count is at its last value
 abbrev pub IsHighest : ℕ → Type 0

@@ -11,8 +11,8 @@ bytes = 1 ∷ 2 ∷ 3 ∷ 4 ∷ []
 
 module _ {G : Type 0} where
   -- the first read gives the four bytes, as many as fit, or fails; each later one gives nothing
-  abbrev pub Reads : GateResource G → List ℕ → Result ℕ Fault → List ℕ → GateResource G → Type 0
-  Reads old buf result now new =
+  abbrev pub ReadsGate : GateResource G → List ℕ → Result ℕ Fault → List ℕ → GateResource G → Type 0
+  ReadsGate old buf result now new =
       elim old.waited [
         | true ↦ (result ≡ Ok 0) × (now ≡ buf) × (new ≡ old)
         | false ↦ (new.waited ≡ true) × (((result ≡ Ok (min (length buf) 4)) × (now ≡ filled bytes buf))
@@ -20,9 +20,9 @@ module _ {G : Type 0} where
       ]
 
   -- a write takes all
-  abbrev pub Writes : GateResource G → List ℕ → Result ℕ Fault → GateResource G → Type 0
-  Writes old bytes result new = (result ≡ Ok (length bytes)) × (new ≡ old)
+  abbrev pub WritesGate : GateResource G → List ℕ → Result ℕ Fault → GateResource G → Type 0
+  WritesGate old bytes result new = (result ≡ Ok (length bytes)) × (new ≡ old)
 
   -- and the end succeeds
-  abbrev pub Finishes : GateResource G → Finished → Type 0
-  Finishes old result = result.outcome ≡ Ok tt
+  abbrev pub FinishesGate : GateResource G → Finished → Type 0
+  FinishesGate old result = result.outcome ≡ Ok tt

@@ -13,15 +13,15 @@ pub record Scripts : Type 0 where
   pub failures : ℕ
 
 -- the steps that a resource has left, the outcome of its finish, and its failures
-pub record Steps : Type 0 where
+pub record ScriptSteps : Type 0 where
   pub steps : List Step
   pub finished : Result (Unit {0}) Fault
   pub failures : ℕ
 
--- ---- Opens
+-- ---- OpensScript
 
 -- after the last script opens succeed, and the resource does as it is asked
-abbrev pub opened_by : Option Script → Result Steps Fault
+abbrev pub opened_by : Option Script → Result ScriptSteps Fault
 opened_by None = Ok (record { steps = []; finished = Ok tt; failures = 0 })
 opened_by (Some s) = elim s.opened [
   | Ok _ ↦ Ok (record { steps = s.steps.items; finished = s.finished; failures = 0 })
@@ -29,11 +29,11 @@ opened_by (Some s) = elim s.opened [
 ]
 
 -- each open and each joining takes one script
-pub record Opens (old : Scripts) (result : Result Steps Fault) (new : Scripts) : Type 0 where
+pub record OpensScript (old : Scripts) (result : Result ScriptSteps Fault) (new : Scripts) : Type 0 where
   pub answer : result ≡ opened_by (slice_get old.scripts 0)
   pub left : new.scripts ≡ drop 1 old.scripts
 
--- ---- Reads and writes
+-- ---- ReadsScript and writes
 
 -- the bytes of a step for a read
 abbrev pub bytes_of : Option Step → List ℕ
@@ -61,19 +61,21 @@ abbrev pub filled : List ℕ → List ℕ → List ℕ
 filled bytes buf = take (length buf) bytes ++ drop (length bytes) buf
 
 -- each read takes one step, also one that is not for it
-pub record Reads (old : Steps) (buf : List ℕ) (result : Result ℕ Fault) (now : List ℕ) (new : Steps) : Type 0 where
+pub record ReadsScript (old : ScriptSteps) (buf : List ℕ) (result : Result ℕ Fault) (now : List ℕ) (new : ScriptSteps) :
+    Type 0 where
   pub answer : result ≡ read_by (slice_get old.steps 0) (length buf)
   pub bytes : now ≡ filled (bytes_of (slice_get old.steps 0)) buf
   pub left : new.steps ≡ drop 1 old.steps
   pub finish : new.finished ≡ old.finished
 
 -- each write takes one step, also one that is not for it
-pub record Writes (old : Steps) (bytes : List ℕ) (result : Result ℕ Fault) (new : Steps) : Type 0 where
-  pub answer : result ≡ written_by (slice_get old.steps 0) (length bytes)
-  pub left : new.steps ≡ drop 1 old.steps
-  pub finish : new.finished ≡ old.finished
+pub record WritesScript (old : ScriptSteps) (bytes : List ℕ) (result : Result ℕ Fault) (new : ScriptSteps) : Type 0
+  where
+    pub answer : result ≡ written_by (slice_get old.steps 0) (length bytes)
+    pub left : new.steps ≡ drop 1 old.steps
+    pub finish : new.finished ≡ old.finished
 
 -- ---- The end
 
-abbrev pub Finishes : Steps → Finished → Type 0
-Finishes old result = result.outcome ≡ old.finished
+abbrev pub FinishesScript : ScriptSteps → Finished → Type 0
+FinishesScript old result = result.outcome ≡ old.finished

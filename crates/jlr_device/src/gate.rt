@@ -75,9 +75,14 @@ impl<G: Gate + Copy + Drop> Device for GateDevice<G> {
 }
 
 impl<G: Gate + Drop> Resource for GateResource<G> {
-    ghost use Rattle.jlr_device.specs.Gates.{Reads, Writes, Finishes};
+    ghost use Rattle.jlr_device.specs.Gates.{ReadsGate, WritesGate, FinishesGate};
 
-    ghost handling = { record { count = λ r. r.failures; reads = Reads; writes = Writes; finishes = Finishes } };
+    ghost handling = { record {
+      count = λ r. r.failures;
+      reads = ReadsGate;
+      writes = WritesGate;
+      finishes = FinishesGate;
+    } };
 
     fn failures(&self) -> u64 {
         self.failures

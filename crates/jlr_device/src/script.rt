@@ -47,7 +47,7 @@ impl Model for ScriptDevice {
 }
 
 impl ScriptDevice {
-    ghost use Rattle.jlr_device.specs.Scripts.{Opens};
+    ghost use Rattle.jlr_device.specs.Scripts.{OpensScript};
 
     /// A device with these scripts, the first one first, after so many failures.
     pub fn new(scripts: Vec<Script>, failures: u64) -> ScriptDevice
@@ -64,7 +64,7 @@ impl ScriptDevice {
         requires { self.old.failures + 1 < 2 ^ 64 }
         ensures counted { Counts self.old.failures result self.new.failures }
         ensures fresh { IfOk result (λ resource. resource.failures ≡ 0) }
-        ensures told { Opens self.old result self.new }
+        ensures told { OpensScript self.old result self.new }
     {
         let Some(script) = self.scripts.pop_front() else {
             return Ok(ScriptResource {
@@ -93,15 +93,15 @@ impl ScriptDevice {
 }
 
 impl Device for ScriptDevice {
-    ghost use Rattle.jlr_device.specs.Scripts.{Opens};
+    ghost use Rattle.jlr_device.specs.Scripts.{OpensScript};
 
     type Res = ScriptResource;
 
     ghost count = { λ d. d.failures };
 
-    ghost may_open = { λ old mode path result new. Opens old result new };
+    ghost may_open = { λ old mode path result new. OpensScript old result new };
 
-    ghost may_connect = { λ old path result new. Opens old result new };
+    ghost may_connect = { λ old path result new. OpensScript old result new };
 
     fn failures(&self) -> u64 {
         self.failures
@@ -126,10 +126,10 @@ pub struct ScriptResource {
 }
 
 impl Model for ScriptResource {
-    ghost use Rattle.jlr_device.specs.Scripts.{Steps};
+    ghost use Rattle.jlr_device.specs.Scripts.{ScriptSteps};
     ghost use Rattle.jlr_device.specs.Queues.{items_of};
 
-    ghost Value = { Steps };
+    ghost Value = { ScriptSteps };
 
     ghost view = { λ r. record { steps = items_of r.steps; finished = r.finished; failures = r.failures } };
 }
@@ -156,9 +156,14 @@ impl ScriptResource {
 }
 
 impl Resource for ScriptResource {
-    ghost use Rattle.jlr_device.specs.Scripts.{Reads, Writes, Finishes};
+    ghost use Rattle.jlr_device.specs.Scripts.{ReadsScript, WritesScript, FinishesScript};
 
-    ghost handling = { record { count = λ r. r.failures; reads = Reads; writes = Writes; finishes = Finishes } };
+    ghost handling = { record {
+      count = λ r. r.failures;
+      reads = ReadsScript;
+      writes = WritesScript;
+      finishes = FinishesScript;
+    } };
 
     fn failures(&self) -> u64 {
         self.failures

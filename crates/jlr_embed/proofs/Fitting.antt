@@ -44,7 +44,7 @@ use Rattle.jlr_core.specs.Events.{Enters, GoesOut, entry_of}
 use Rattle.jlr_core.specs.Steps.{IsEmpty, IsStep}
 use Rattle.jlr_embed.specs.Kinds.{GoesBack, is_end, is_faulted, is_prepared, kind_of_call, kind_of_finish, is_handle, is_job, is_integer}
 use Rattle.jlr_embed.specs.Kinds.{is_told, kind_of, kind_of_open, kind_asked, suits}
-use Rattle.jlr_embed.specs.Standing.{Stands}
+use Rattle.jlr_embed.specs.Standing.{StandsForMachine}
 
 -- ---- The answers of asks that are carried out
 
@@ -176,11 +176,11 @@ entered m n None a chosen e = absurd e
 
 module _ {R : Type 0} (old new : Kept R) (event : Event R) (reply : Reply R) (chosen : Chosen)
     (step : IsStep old event reply chosen new) where
-  pub stands_after : Stands old → Stands new
+  pub stands_after : StandsForMachine old → StandsForMachine new
   stands_after s = let x = step.entry s.0 s.1 in (x.0, x.2)
 
 pub kind_told : {R : Type 0} (old new : Kept R) (event : Event R) (a : Answer) (out : Option R) (chosen : Chosen)
-    → IsStep old event (Answered a out) chosen new → Stands old → is_told (kind_asked (ask_of event)) a ≡ true
+    → IsStep old event (Answered a out) chosen new → StandsForMachine old → is_told (kind_asked (ask_of event)) a ≡ true
 kind_told old new event a out chosen step s = let x = step.entry s.0 s.1 in entered s.0 x.0 (ask_of event) a chosen x.1
 
 -- ---- What goes out
@@ -239,7 +239,7 @@ goes_back t came (answer.Handed what) out g = g
 -- ---- The empty heap
 
 pub stands_empty : {R : Type 0} (core : Kept R) (cells sessions limit soft_age first : ℕ) → IsEmpty cells sessions limit soft_age first core
-    → Stands core
+    → StandsForMachine core
 stands_empty core cells sessions limit soft_age first e = (
   empty_from cells sessions limit first,
   record { same = e.machine; seen = λ is_open. absurd (both_ways false refl is_open); outside = λ _. refl },
@@ -248,7 +248,7 @@ stands_empty core cells sessions limit soft_age first e = (
 -- ---- Replies of which the kind is known
 
 module _ {R : Type 0} (old new : Kept R) (event : Event R) (reply : Reply R) (chosen : Chosen) (step : IsStep old event reply chosen new)
-    (s : Stands old) where
+    (s : StandsForMachine old) where
   pub kind_carried : (a : Answer) (out : Option R) → reply ≡ Answered a out → is_told (kind_asked (ask_of event)) a ≡ true
   kind_carried a out e = kind_told old new event a out chosen (subst (λ r. IsStep old event r chosen new) e step) s
 

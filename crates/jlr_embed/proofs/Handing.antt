@@ -19,8 +19,8 @@ use Rattle.jlr_event.specs.declared.event.Reply.TheVariants.{Answered}
 use Rattle.jlr_core.specs.Cores.{Kept, StandsIn}
 use Rattle.jlr_core.specs.Events.{entry_of}
 use Rattle.jlr_core.specs.Steps.{IsStep, Steps}
-use Rattle.jlr_embed.specs.Standing.{Stands}
-use Rattle.jlr_embed.specs.Settling.{HandsOver}
+use Rattle.jlr_embed.specs.Standing.{StandsForMachine}
+use Rattle.jlr_embed.specs.Settling.{HandsOverSteps}
 
 -- ---- What is left of the list
 
@@ -68,7 +68,7 @@ same_pending : {R : Type 0} (core : Kept R) (m : Machine) → StandsIn core m �
 same_pending core m s = ap {A = Machine} {B = List ℕ} (λ n. n.pending) s.same
 
 pub less_pending : {R : Type 0} (old new : Kept R) (what : Handed) (chosen : Chosen)
-    → IsStep old (Asks ask.HandOver) (Answered (answer.Handed what) None) chosen new → Stands old → old.machine.pending ≢ []
+    → IsStep old (Asks ask.HandOver) (Answered (answer.Handed what) None) chosen new → StandsForMachine old → old.machine.pending ≢ []
     → length new.machine.pending < length old.machine.pending
 less_pending old new what chosen step stands some =
     let m = stands.0 in
@@ -80,7 +80,7 @@ less_pending old new what chosen step stands some =
 
 -- ---- One step more
 
-pub more : {R : Type 0} (all : List Handed) (what : Handed) (old mid new : Kept R) → HandsOver all old mid
-    → Steps mid (Asks ask.HandOver) (Answered (answer.Handed what) None) new → HandsOver (all ++ what ∷ []) old new
+pub more : {R : Type 0} (all : List Handed) (what : Handed) (old mid new : Kept R) → HandsOverSteps all old mid
+    → Steps mid (Asks ask.HandOver) (Answered (answer.Handed what) None) new → HandsOverSteps (all ++ what ∷ []) old new
 more [] what old mid new h s = (new, subst (λ m. Steps m (Asks ask.HandOver) (Answered (answer.Handed what) None) new) h s, refl)
 more (x ∷ all) what old mid new h s = (h.0, h.1, more all what h.0 mid new h.2 s)

@@ -14,8 +14,8 @@ use Rattle.jlr_core.specs.Cores.{Kept}
 use Rattle.jlr_core.specs.Steps.{IsEmpty, Steps}
 
 -- a heap whose resources are tokens
-abbrev pub Heap : Type 0
-Heap = Kept ℕ
+abbrev pub HeapOfTokens : Type 0
+HeapOfTokens = Kept ℕ
 
 -- ---- What a call returns beside 0 and the number of a refusal, 1 to 19
 
@@ -40,43 +40,47 @@ limit_status SoftAge = 38
 limit_status Trace = 33
 limit_status Budget = 33
 
--- ---- Calls
+-- ---- CallsHeap
 
 -- Of a handle that is closed nothing is told, and it stays closed. A heap that is open stays open, and the call is one
 -- event of it
 
 -- an event that carries no token
-abbrev pub Calls : Option Heap → Event ℕ → Type 0 → (Answer → Type 0) → Option Heap → Type 0
-Calls None event Silent Tells new = Silent × (new ≡ None)
-Calls (Some old) event Silent Tells new =
-    (answer : Answer) × (h : Heap) × (new ≡ Some h) × Steps old event (Answered answer None) h × Tells answer
+abbrev pub CallsHeap : Option HeapOfTokens → Event ℕ → Type 0 → (Answer → Type 0) → Option HeapOfTokens → Type 0
+CallsHeap None event Silent Tells new = Silent × (new ≡ None)
+CallsHeap (Some old) event Silent Tells new =
+    (answer : Answer) × (h : HeapOfTokens) × (new ≡ Some h) × Steps old event (Answered answer None) h × Tells answer
 
 -- an event that may carry a token, in or out
-abbrev pub Carries : Option Heap → Event ℕ → Type 0 → (Answer → Option ℕ → Type 0) → Option Heap → Type 0
+abbrev pub Carries : Option HeapOfTokens → Event ℕ → Type 0 → (Answer → Option ℕ → Type 0) → Option HeapOfTokens
+    → Type 0
 Carries None event Silent Tells new = Silent × (new ≡ None)
 Carries (Some old) event Silent Tells new =
-    (answer : Answer) × (token : Option ℕ) × (h : Heap) × (new ≡ Some h) × Steps old event (Answered answer token) h
+    (answer : Answer) × (token : Option ℕ) × (h : HeapOfTokens) × (new ≡ Some h)
+    × Steps old event (Answered answer token) h
     × Tells answer token
 
 -- a step of the handler
-abbrev pub HandsOver : Option Heap → Type 0 → (Handed → Type 0) → Option Heap → Type 0
-HandsOver None Silent Tells new = Silent × (new ≡ None)
-HandsOver (Some old) Silent Tells new =
-    (what : Handed) × (h : Heap) × (new ≡ Some h) × Steps old (Asks HandOver) (Answered (answer.Handed what) None) h
+abbrev pub HandsOverOnce : Option HeapOfTokens → Type 0 → (Handed → Type 0) → Option HeapOfTokens → Type 0
+HandsOverOnce None Silent Tells new = Silent × (new ≡ None)
+HandsOverOnce (Some old) Silent Tells new =
+    (what : Handed) × (h : HeapOfTokens) × (new ≡ Some h) × Steps old (Asks HandOver) (Answered (answer.Handed what)
+    None) h
     × Tells what
 
 -- a piece of marking
-abbrev pub Marks : Option Heap → ℕ → Type 0 → (Progress → Type 0) → Option Heap → Type 0
+abbrev pub Marks : Option HeapOfTokens → ℕ → Type 0 → (Progress → Type 0) → Option HeapOfTokens → Type 0
 Marks None budget Silent Tells new = Silent × (new ≡ None)
 Marks (Some old) budget Silent Tells new =
-    (progress : Progress) × (h : Heap) × (new ≡ Some h) × Steps old (Mark budget) (Marked progress) h × Tells progress
+    (progress : Progress) × (h : HeapOfTokens) × (new ≡ Some h) × Steps old (Mark budget) (Marked progress) h
+    × Tells progress
 
 -- ---- The life of a handle
 
 -- the empty heap of these limits is behind the handle
-abbrev pub Opens : ℕ → ℕ → ℕ → ℕ → Option Heap → Type 0
-Opens cells sessions resources soft_age new =
-    (h : Heap) × (new ≡ Some h) × IsEmpty cells sessions resources soft_age 1 h
+abbrev pub OpensHeap : ℕ → ℕ → ℕ → ℕ → Option HeapOfTokens → Type 0
+OpensHeap cells sessions resources soft_age new =
+    (h : HeapOfTokens) × (new ≡ Some h) × IsEmpty cells sessions resources soft_age 1 h
 
 -- the first limit that is out of its range is told
 abbrev pub TellsLimit : ℕ → Option LimitFault → Type 0

@@ -4,12 +4,13 @@ use Rattle.jlr_machine.specs.declared.ask.Answer.{Answer}
 use Rattle.jlr_event.specs.declared.event.Event.{Event}
 use Rattle.jlr_event.specs.declared.event.Reply.TheVariants.{Answered}
 use Rattle.jlr_core.specs.Steps.{Steps}
-use Rattle.jlr_embed.specs.Calls.{Heap}
+use Rattle.jlr_embed.specs.Calls.{HeapOfTokens}
 
-abbrev pub Asked : Option Heap → Event ℕ → Answer → Option Heap → Type 0
-Asked None event answer new = ⊥
-Asked (Some old) event answer new = (h : Heap) × (new ≡ Some h) × Steps old event (Answered answer None) h
+abbrev pub AskedOnce : Option HeapOfTokens → Event ℕ → Answer → Option HeapOfTokens → Type 0
+AskedOnce None event answer new = ⊥
+AskedOnce (Some old) event answer new = (h : HeapOfTokens) × (new ≡ Some h) × Steps old event (Answered answer None) h
 
-abbrev pub Carried : Option Heap → Event ℕ → Answer → Option ℕ → Option Heap → Type 0
+abbrev pub Carried : Option HeapOfTokens → Event ℕ → Answer → Option ℕ → Option HeapOfTokens → Type 0
 Carried None event answer token new = ⊥
-Carried (Some old) event answer token new = (h : Heap) × (new ≡ Some h) × Steps old event (Answered answer token) h
+Carried (Some old) event answer token new = (h : HeapOfTokens) × (new ≡ Some h)
+    × Steps old event (Answered answer token) h

@@ -9,11 +9,11 @@ use Rattle.jlr_core.specs.Cores.{Kept}
 use Rattle.jlr_core.specs.Steps.{Steps}
 
 -- steps of the handler, one after the other, which handed these over
-abbrev pub HandsOver : {R : Type 0} → List Handed → Kept R → Kept R → Type 0
-HandsOver [] old new = new ≡ old
-HandsOver {R} (what ∷ later) old new = (next : Kept R)
-    × Steps old (Asks HandOver) (Answered (answer.Handed what) None) next × HandsOver later next new
+abbrev pub HandsOverSteps : {R : Type 0} → List Handed → Kept R → Kept R → Type 0
+HandsOverSteps [] old new = new ≡ old
+HandsOverSteps {R} (what ∷ later) old new = (next : Kept R)
+    × Steps old (Asks HandOver) (Answered (answer.Handed what) None) next × HandsOverSteps later next new
 
 -- such steps, until nothing is pending
-abbrev pub Settles : {R : Type 0} → Kept R → Kept R → Type 0
-Settles old new = (all : List Handed) × HandsOver all old new × (new.machine.pending ≡ [])
+abbrev pub SettlesAll : {R : Type 0} → Kept R → Kept R → Type 0
+SettlesAll old new = (all : List Handed) × HandsOverSteps all old new × (new.machine.pending ≡ [])

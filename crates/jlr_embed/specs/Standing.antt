@@ -2,5 +2,5 @@
 use Rattle.jlr_machine.specs.declared.machine.Machine.{Machine}
 use Rattle.jlr_core.specs.Cores.{Kept, StandsIn}
 
-abbrev pub Stands : {R : Type 0} → Kept R → Type 0
-Stands core = (m : Machine) × StandsIn core m
+abbrev pub StandsForMachine : {R : Type 0} → Kept R → Type 0
+StandsForMachine core = (m : Machine) × StandsIn core m

@@ -5,7 +5,7 @@ ghost use Rattle.jlr_event.specs.Events.{ask_of, resource_of_event};
 ghost use Rattle.jlr_core.specs.Events.{carries_none};
 ghost use Rattle.jlr_core.specs.Steps.{IsEmpty, Steps};
 ghost use Rattle.jlr_embed.specs.Kinds.{GoesBack, is_told, kind_asked, suits};
-ghost use Rattle.jlr_embed.specs.Settling.{Settles};
+ghost use Rattle.jlr_embed.specs.Settling.{SettlesAll};
 
 use jlr_core::engine::Core;
 use jlr_event::event::{Event, Reply};
@@ -26,13 +26,13 @@ pub struct Unrecorded<R> {
 impl<R> Model for Unrecorded<R> {
     ghost use Rattle.std.specs.Prelude.{length, ◌≤◌};
     ghost use Rattle.jlr_core.specs.Cores.{Kept};
-    ghost use Rattle.jlr_embed.specs.Standing.{Stands};
+    ghost use Rattle.jlr_embed.specs.Standing.{StandsForMachine};
 
     ghost Value = { Kept R };
 
     ghost view = { λ e. e.core };
 
-    ghost invariant = { λ e. (length e.core.machine.objects ≤ e.choice.cells) × Stands e.core };
+    ghost invariant = { λ e. (length e.core.machine.objects ≤ e.choice.cells) × StandsForMachine e.core };
 }
 
 impl<R: Drop> Unrecorded<R> {
@@ -111,7 +111,7 @@ impl<R: Drop> Unrecorded<R> {
     /// Steps of the handler, until nothing is pending: what collections cleared comes to its queues, and actions to
     /// the cleaner's line. Takes no memory.
     pub fn settle(&mut self)
-        ensures { Settles self.old self.new }
+        ensures { SettlesAll self.old self.new }
     {
         while !self.pending_empty() {
             self.hand_over();

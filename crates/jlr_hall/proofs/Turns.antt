@@ -19,7 +19,7 @@ use Rattle.jlr_hall.specs.OneHistory.{IsWhole}
 use Rattle.jlr_hall.specs.Asking.{Asked, AskedIn, HasItsResource, found}
 use Rattle.jlr_hall.specs.Due.{HasLine, HasPending, IsDueAt, IsDueIn}
 use Rattle.jlr_hall.specs.Locking.{Under}
-use Rattle.jlr_hall.specs.Loops.{AsksOnly, Chain, Cleans, CleansIn, IsCleaners, job_in}
+use Rattle.jlr_hall.specs.Loops.{AsksOnly, AsksInTurn, Cleans, CleansIn, IsCleaners, job_in}
 
 module _ {R : Type 0} (limits : Limits) where
   -- an ask where it may be asked in the history that it found
@@ -40,8 +40,8 @@ module _ {R : Type 0} (limits : Limits) where
   asked_there may log old e reply new is a = record { asked = a.0; may_be = subst (λ (l : List (Step R)). may l e) (sym a.1) is }
 
   chain_more : (may : List (Step R) → Event R → Type 0) (p : Seen (Step R)) (asks : List (Event R × Reply R)) (q r : Seen (Step R))
-      (e : Event R) (reply : Reply R) → Chain limits may p asks q
-      → AskedAt may q e reply r → Chain limits may p (asks ++ (e, reply) ∷ []) r
+      (e : Event R) (reply : Reply R) → AsksInTurn limits may p asks q
+      → AskedAt may q e reply r → AsksInTurn limits may p (asks ++ (e, reply) ∷ []) r
   chain_more may p [] q r e reply c a =
       let b = subst (λ (x : Seen (Step R)). AskedAt may x e reply r) c a in
       (r, b.asked, b.may_be, refl)

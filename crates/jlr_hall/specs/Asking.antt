@@ -21,7 +21,7 @@ use Rattle.jlr_book.specs.Histories.{History, last}
 use Rattle.jlr_log.specs.Views.{own}
 use Rattle.jlr_log.specs.Seeing.{Seen}
 use Rattle.jlr_hall.specs.declared.step.Step.{Step}
-use Rattle.jlr_hall.specs.OneHistory.{IsHistory, IsWhole, seat_of, step}
+use Rattle.jlr_hall.specs.OneHistory.{LayUnderLock, IsWhole, seat_of, step}
 
 -- the book cuts only before an ask that ends no call and no session
 abbrev pub may_cut : Option Ask → Bool
@@ -57,7 +57,7 @@ module _ {R : Type 0} where
     pub book : History R
     pub lay : IsWhole limits book (old.known ++ between)
     pub known : new.known ≡ (old.known ++ between) ++ with_cut old.seat book event reply (is_cut book event)
-    pub legal : IsHistory limits new.known
+    pub legal : LayUnderLock limits new.known
 
   -- fewer than 1,024 entry numbers are left behind a history
   abbrev pub LacksNumbers : Limits → List (Step R) → Type 0

@@ -13,7 +13,7 @@ use Rattle.jlr_event.specs.declared.event.Reply.{Reply}
 use Rattle.jlr_event.specs.Events.{answer_in, resource_of_reply}
 use Rattle.jlr_log.specs.Views.{own}
 use Rattle.jlr_book.specs.Histories.{History}
-use Rattle.jlr_book.specs.Due.{IsDue}
+use Rattle.jlr_book.specs.Due.{IsCycleDue}
 use Rattle.jlr_hall.specs.declared.step.Step.{Step}
 use Rattle.jlr_hall.specs.OneHistory.{IsWhole, is_refused, seat_of}
 
@@ -77,7 +77,7 @@ module _ {R : Type 0} where
 
   -- no cycle is open, and one is due by the cells that were taken, or owed
   abbrev pub IsDueIn : History R → List (Step R) → Type 0
-  IsDueIn book log = (book.core.machine.cycle_open ≡ false) × (IsDue book ⊎ IsOwed log)
+  IsDueIn book log = (book.core.machine.cycle_open ≡ false) × (IsCycleDue book ⊎ IsOwed log)
 
   -- one is due, or to be marked
   abbrev pub HasMarking : History R → List (Step R) → Type 0

@@ -19,16 +19,16 @@ use Rattle.jlr_hall.specs.Due.{HasLine, HasPending, IsDueAt}
 module _ {R : Type 0} (limits : Limits) where
   -- These events were asked by one seat and answered so, and nothing else; each was one that may be asked in the
   -- history that it found.
-  abbrev pub Chain : (List (Step R) → Event R → Type 0) → Seen (Step R) → List (Event R × Reply R) → Seen (Step R)
+  abbrev pub AsksInTurn : (List (Step R) → Event R → Type 0) → Seen (Step R) → List (Event R × Reply R) → Seen (Step R)
       → Type 0
-  Chain may p [] q = q ≡ p
-  Chain may p (x ∷ asks) q =
+  AsksInTurn may p [] q = q ≡ p
+  AsksInTurn may p (x ∷ asks) q =
       (mid : Seen (Step R)) × (asked : Asked limits p x.0 x.1 mid) × may (found limits p x.0 x.1 mid asked) x.0
-      × Chain may mid asks q
+      × AsksInTurn may mid asks q
 
   -- nothing but such events were asked
   abbrev pub AsksOnly : (List (Step R) → Event R → Type 0) → Seen (Step R) → Seen (Step R) → Type 0
-  AsksOnly may old new = (asks : List (Event R × Reply R)) × Chain may old asks new
+  AsksOnly may old new = (asks : List (Event R × Reply R)) × AsksInTurn may old asks new
 
 -- ---- What a loop may ask in a history
 
@@ -64,4 +64,4 @@ module _ {R : Type 0} (handling : Handling R) where
   -- nothing else was asked, and with that job running at the end
   abbrev pub CleansIn : Limits → Seen (Step R) → Option (Job R) → Seen (Step R) → Type 0
   CleansIn limits old last new =
-      (asks : List (Event R × Reply R)) × Chain limits (IsCleaners limits) old asks new × Cleans None asks last
+      (asks : List (Event R × Reply R)) × AsksInTurn limits (IsCleaners limits) old asks new × Cleans None asks last

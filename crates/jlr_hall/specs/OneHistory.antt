@@ -83,5 +83,5 @@ module _ {R : Type 0} where
     pub seats : AllSit (limits.sessions + 3) log
 
   -- a history that lay under the lock
-  abbrev pub IsHistory : Limits → List (Step R) → Type 0
-  IsHistory limits log = (book : History R) × IsWhole limits book log
+  abbrev pub LayUnderLock : Limits → List (Step R) → Type 0
+  LayUnderLock limits log = (book : History R) × IsWhole limits book log

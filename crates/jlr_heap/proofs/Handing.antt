@@ -12,7 +12,7 @@ use Rattle.jlr_embed.proofs.Fitting.{goes_back}
 use Rattle.jlr_embed.proofs.Handing.{less_pending}
 use Rattle.jlr_book.specs.Histories.{History, IsHistory}
 use Rattle.jlr_book.specs.Rules.{BookSteps}
-use Rattle.jlr_heap.specs.Recording.{HandsOne, HandsOver}
+use Rattle.jlr_heap.specs.Recording.{HandsOne, HandsOverRecorded}
 use Rattle.jlr_heap.proofs.Stepping.{IsReady, asked}
 
 ready_less : {R : Type 0} (old : History R) (core new : Kept R) (what : Handed) (out : Option R) → IsReady old core
@@ -35,7 +35,7 @@ less_handed {R} seat old new what out h steps some =
       | inr d ↦ cc d.1
     ]
 
-pub one_more : {R : Type 0} (states : List (History R)) (old mid new : History R) → HandsOver states old mid → HandsOne mid new
-    → HandsOver (states ++ new ∷ []) old new
+pub one_more : {R : Type 0} (states : List (History R)) (old mid new : History R) → HandsOverRecorded states old mid → HandsOne mid new
+    → HandsOverRecorded (states ++ new ∷ []) old new
 one_more [] old mid new h s = (subst (λ m. HandsOne m new) h s, refl)
 one_more (x ∷ states) old mid new h s = (h.0, one_more states x mid new h.1 s)

@@ -15,22 +15,23 @@ use Rattle.jlr_event.specs.declared.event.Reply.TheVariants.{Answered}
 use Rattle.jlr_core.specs.Cores.{Kept}
 use Rattle.jlr_core.specs.Steps.{IsEmpty, Steps}
 use Rattle.jlr_session.specs.Asks.{Asking}
-use Rattle.jlr_embed.specs.Settling.{Settles}
+use Rattle.jlr_embed.specs.Settling.{SettlesAll}
 use Rattle.jlr_heap.specs.declared.heap.Heap.{Heap}
 
 -- with no history an ask and its reply are a step of the core
 abbrev pub unrecorded : {R : Type 0} → Asking (Kept R) R
-unrecorded = record { mutator = λ _. 0; asks = Steps; settling = Settles }
+unrecorded = record { mutator = λ _. 0; asks = Steps; settling = SettlesAll }
 
 module _ {K R : Type 0} (asking : Asking K R) where
   -- what follows a call
-  abbrev pub Follows : Heap K → K → Heap K → Type 0
-  Follows old between new = MatchBool old.settles (asking.settling between new.keeper) (new.keeper ≡ between)
+  abbrev pub FollowsCall : Heap K → K → Heap K → Type 0
+  FollowsCall old between new = MatchBool old.settles (asking.settling between new.keeper) (new.keeper ≡ between)
       × (new.settles ≡ old.settles)
 
   -- an event with its reply leads from a heap to a heap
   abbrev pub IsReplied : Heap K → Event R → Reply R → Heap K → Type 0
-  IsReplied old event reply new = (between : K) × asking.asks old.keeper event reply between × Follows old between new
+  IsReplied old event reply new = (between : K) × asking.asks old.keeper event reply between × FollowsCall old between
+      new
 
   -- the same of an ask with which nothing comes in or goes out
   abbrev pub IsEntry : Heap K → Ask → Answer → Heap K → Type 0
@@ -77,13 +78,13 @@ faults (Err by) = answer.Refused by
 
 -- ---- A call that gives nothing
 
-abbrev pub Ends : Result (Unit {0}) Refusal → Answer → Type 0
-Ends (Err by) told = told ≡ answer.Refused by
-Ends (Ok done) (answer.Refused by) = ⊥
-Ends (Ok done) told = Unit {0}
+abbrev pub GivesNothing : Result (Unit {0}) Refusal → Answer → Type 0
+GivesNothing (Err by) told = told ≡ answer.Refused by
+GivesNothing (Ok done) (answer.Refused by) = ⊥
+GivesNothing (Ok done) told = Unit {0}
 
 abbrev pub IsDone : {K R : Type 0} → Asking K R → Heap K → Ask → Result (Unit {0}) Refusal → Heap K → Type 0
-IsDone asking old ask result new = (answer : Answer) × IsEntry asking old ask answer new × Ends result answer
+IsDone asking old ask result new = (answer : Answer) × IsEntry asking old ask answer new × GivesNothing result answer
 
 -- ---- The beginning: mutator 0 joins
 

@@ -18,7 +18,7 @@ use Rattle.jlr_session.specs.Asks.{TellsWritten, job_by, said_by, out_by, prepar
 use Rattle.jlr_heap.specs.declared.failed.Failed.{Failed as Why}
 use Rattle.jlr_heap.specs.declared.failed.Failed.TheVariants as why
 use Rattle.jlr_heap.specs.declared.heap.Heap.{Heap}
-use Rattle.jlr_heap.specs.Entries.{Follows}
+use Rattle.jlr_heap.specs.Entries.{FollowsCall}
 
 -- ---- The answer that a result tells
 
@@ -79,27 +79,30 @@ module _ {K R : Type 0} (asking : Asking K R) where
       × AsksTwice asking first leads comes_to rests old said new × tells result said
 
   -- that, and what follows a call
-  abbrev pub IsCommand : {X T : Type 0} → Ask → (Reply R → Result X Answer) → (X → Event R → Type 0) → Type 0
+  abbrev pub IsSettledCommand : {X T : Type 0} → Ask → (Reply R → Result X Answer) → (X → Event R → Type 0) → Type 0
       → (T → Answer → Type 0) → Heap K → T → Heap K → Type 0
-  IsCommand first leads comes_to rests tells old result new =
+  IsSettledCommand first leads comes_to rests tells old result new =
       (between : K) × IsAskedTwice first leads comes_to rests tells old.keeper result between
-      × Follows asking old between new
+      × FollowsCall asking old between new
 
   abbrev pub IsOpened : {D : Type 0} → Opening D R → Mode → List ℕ → D → D → Heap K → Result ℕ Why → Heap K → Type 0
-  IsOpened device mode path d d' = IsCommand (Prepare 0) prepared_by (λ _. TellsOpened device 0 mode path d d') (d' ≡ d)
+  IsOpened device mode path d d' = IsSettledCommand (Prepare 0) prepared_by (λ _. TellsOpened device 0 mode path d d')
+      (d' ≡ d)
       (λ result said. said ≡ guard_told result)
 
   abbrev pub IsConnected : {D : Type 0} → Opening D R → List ℕ → D → D → Heap K → Result ℕ Why → Heap K → Type 0
-  IsConnected device path d d' = IsCommand (Prepare 0) prepared_by (λ _. TellsConnected device 0 path d d') (d' ≡ d)
+  IsConnected device path d d' = IsSettledCommand (Prepare 0) prepared_by (λ _. TellsConnected device 0 path d d')
+      (d' ≡ d)
       (λ result said. said ≡ guard_told result)
 
   abbrev pub IsRead : Handling R → ℕ → ℕ → Heap K → Result (List ℕ) Why → Heap K → Type 0
   IsRead resource guard count =
-      IsCommand (CheckOut 0 guard) out_by (TellsRead resource 0 count) ⊤ (λ result said. said ≡ data_told result)
+      IsSettledCommand (CheckOut 0 guard) out_by (TellsRead resource 0 count) ⊤ (λ result said. said ≡ data_told result)
 
-  abbrev pub IsWritten : Handling R → ℕ → List ℕ → Heap K → Result ℕ Why → Heap K → Type 0
-  IsWritten resource guard bytes =
-      IsCommand (CheckOut 0 guard) out_by (TellsWritten resource 0 bytes) ⊤ (λ result said. said ≡ count_told result)
+  abbrev pub WritesFile : Handling R → ℕ → List ℕ → Heap K → Result ℕ Why → Heap K → Type 0
+  WritesFile resource guard bytes =
+      IsSettledCommand (CheckOut 0 guard) out_by (TellsWritten resource 0 bytes) ⊤ (λ result said. said
+      ≡ count_told result)
 
   abbrev pub IsClosed : Handling R → ℕ → Heap K → Result Bool Why → Heap K → Type 0
-  IsClosed resource guard = IsCommand (Close 0 guard) job_by (TellsFinished resource 0) ⊤ TellsClosed
+  IsClosed resource guard = IsSettledCommand (Close 0 guard) job_by (TellsFinished resource 0) ⊤ TellsClosed

@@ -23,18 +23,18 @@ call_outcome (Ok done) = Wrote 0
 call_outcome (Err fault) = Failed fault
 
 module _ {R : Type 0} where
-  abbrev pub TellsWork : Job R → ℕ → Work → Option R → Type 0
-  TellsWork job action w (Some held) = job ≡ record { action = action; what = Held held }
-  TellsWork job action (work.Note n) None = job ≡ record { action = action; what = Note n }
-  TellsWork job action (work.Resource rid) None = ⊥
+  abbrev pub TellsWorkOf : Job R → ℕ → Work → Option R → Type 0
+  TellsWorkOf job action w (Some held) = job ≡ record { action = action; what = Held held }
+  TellsWorkOf job action (work.Note n) None = job ≡ record { action = action; what = Note n }
+  TellsWorkOf job action (work.Resource rid) None = ⊥
 
   -- a job with what goes out with it, or that there is none
-  abbrev pub TellsJob : Result (Option (Job R)) Refusal → Answer → Option R → Type 0
-  TellsJob (Ok (Some job)) (answer.Job action w) out = TellsWork job action w out
-  TellsJob (Ok None) answer.AlreadyDone out = Unit {0}
-  TellsJob (Ok None) (answer.Handed what) out = Unit {0}
-  TellsJob (Err by) (answer.Refused reason) out = by ≡ reason
-  TellsJob _ _ _ = ⊥
+  abbrev pub TellsTaken : Result (Option (Job R)) Refusal → Answer → Option R → Type 0
+  TellsTaken (Ok (Some job)) (answer.Job action w) out = TellsWorkOf job action w out
+  TellsTaken (Ok None) answer.AlreadyDone out = Unit {0}
+  TellsTaken (Ok None) (answer.Handed what) out = Unit {0}
+  TellsTaken (Err by) (answer.Refused reason) out = by ≡ reason
+  TellsTaken _ _ _ = ⊥
 
   abbrev pub TellsLent : Result R Refusal → Answer → Option R → Type 0
   TellsLent (Ok lent) (answer.Out rid) (Some held) = lent ≡ held

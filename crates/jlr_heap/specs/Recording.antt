@@ -27,13 +27,13 @@ module _ {R : Type 0} where
       × was_refused reply
 
   -- such steps, which led to these
-  abbrev pub HandsOver : List (History R) → History R → History R → Type 0
-  HandsOver [] old new = new ≡ old
-  HandsOver (next ∷ later) old new = HandsOne old next × HandsOver later next new
+  abbrev pub HandsOverRecorded : List (History R) → History R → History R → Type 0
+  HandsOverRecorded [] old new = new ≡ old
+  HandsOverRecorded (next ∷ later) old new = HandsOne old next × HandsOverRecorded later next new
 
   -- until nothing is pending, or one is refused, for want of memory or of numbers
   abbrev pub SettlesBook : History R → History R → Type 0
-  SettlesBook old new = (states : List (History R)) × (last : History R) × HandsOver states old last
+  SettlesBook old new = (states : List (History R)) × (last : History R) × HandsOverRecorded states old last
       × (((new ≡ last) × (new.core.machine.pending ≡ [])) ⊎ CannotHand last new)
 
   -- each ask of mutator 0 is a step of the book, and a settling is steps of the handler

@@ -3,7 +3,7 @@ ghost use Rattle.std.specs.Prelude.{◌≡◌, ◌≤◌, true, length, ⊤};
 ghost use Rattle.jlr_event.specs.declared.event.Event.TheVariants as event;
 ghost use Rattle.jlr_machine.specs.declared.ask.Ask.TheVariants as ask;
 ghost use Rattle.jlr_event.specs.Events.{outcome_of};
-ghost use Rattle.jlr_session.specs.Calls.{Reads, Writes};
+ghost use Rattle.jlr_session.specs.Calls.{ReadsUpTo, Writes};
 ghost use Rattle.jlr_session.specs.Asks.{TellsConnected, TellsFinished, TellsOpened, TellsRead, TellsWritten};
 ghost use Rattle.jlr_session.specs.Asks.{job_by, out_by, prepared_by};
 ghost use Rattle.jlr_embed.specs.Kinds.{is_data, is_end, is_faulted, is_handle, is_told, is_wrote};
@@ -226,7 +226,7 @@ fn read_of<D: Device>(
     count: u8,
     room: Data,
 ) -> Result<Data, Fault>
-    ensures { Reads D.Res.handling count resource.old (data_outcome result) resource.new }
+    ensures { ReadsUpTo D.Res.handling count resource.old (data_outcome result) resource.new }
 {
     let mut buffer = [0u8; CALL_LIMIT];
     let bytes = &mut buffer[..CALL_LIMIT.min(usize::from(count))];

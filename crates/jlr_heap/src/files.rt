@@ -4,7 +4,7 @@ ghost use Rattle.jlr_types.specs.declared.Fault.{Fault as Why};
 ghost use Rattle.jlr_event.specs.Events.{outcome_of};
 ghost use Rattle.jlr_session.specs.Calls.{Finishes};
 ghost use Rattle.jlr_heap.specs.Entries.{IsEntry};
-ghost use Rattle.jlr_heap.specs.Files.{IsClosed, IsConnected, IsOpened, IsRead, IsWritten, finish_told};
+ghost use Rattle.jlr_heap.specs.Files.{IsClosed, IsConnected, IsOpened, IsRead, WritesFile, finish_told};
 
 use crate::commands::{close, connect, finished, open, read, write};
 use crate::failed::Failed;
@@ -121,7 +121,8 @@ where
         guard: Guard,
         bytes: &[u8],
     ) -> Result<WriteCount, Failed>
-        ensures { IsWritten K.asking K.Held.handling guard (take (min 200 (length bytes.now)) bytes.now) self.old result
+        ensures { WritesFile K.asking K.Held.handling guard (take (min 200 (length bytes.now)) bytes.now) self.old
+            result
             self.new }
     {
         let front = &bytes[..CALL_LIMIT.min(bytes.len())];

@@ -2,8 +2,8 @@
 ghost use Rattle.std.specs.Prelude.{◌≡◌, Err, Ok, false};
 ghost use Rattle.jlr_machine.specs.Data.{is_data};
 ghost use Rattle.jlr_event.specs.Events.{outcome_of};
-ghost use Rattle.jlr_heap.specs.Entries.{Ends, IsDone};
-ghost use Rattle.jlr_heap.specs.Guards.{IsTold, TellsBack, TellsGuarded, TellsJob, TellsLent, call_outcome};
+ghost use Rattle.jlr_heap.specs.Entries.{GivesNothing, IsDone};
+ghost use Rattle.jlr_heap.specs.Guards.{IsTold, TellsBack, TellsGuarded, TellsTaken, TellsLent, call_outcome};
 
 use crate::handles::{Cleanable, Guard};
 use crate::heap::{Heap, me};
@@ -69,7 +69,8 @@ impl<K: Keeper> Heap<K> {
 
     /// What was to be adopted could not be opened: its room is let go.
     pub fn give_up(&mut self, fault: Fault) -> Result<(), Refusal>
-        ensures { IsTold K.asking (λ result answer _. Ends result answer) self.old (Event.Opened 0 (Err fault)) result
+        ensures { IsTold K.asking (λ result answer _. GivesNothing result answer) self.old (Event.Opened 0 (Err fault))
+            result
             self.new }
     {
         let (answer, _) = self.keeper.carry(
@@ -127,7 +128,7 @@ impl<K: Keeper> Heap<K> {
     /// A guard is closed, and what it held given back for good; none where it was given back before. Nothing else is
     /// asked before `finish`.
     pub fn stop(&mut self, guard: Guard) -> Result<Option<Job<K::Held>>, Refusal>
-        ensures { IsTold K.asking TellsJob self.old (Event.Ask (Ask.Close 0 guard)) result self.new }
+        ensures { IsTold K.asking TellsTaken self.old (Event.Ask (Ask.Close 0 guard)) result self.new }
     {
         let (answer, held) = self.keeper.carry(
             Event::ask(Ask::Close {
@@ -142,7 +143,7 @@ impl<K: Keeper> Heap<K> {
 
     /// An action is taken up now; none where it was taken up before. Nothing else is asked before `finish`.
     pub fn clean(&mut self, cleanable: Cleanable) -> Result<Option<Job<K::Held>>, Refusal>
-        ensures { IsTold K.asking TellsJob self.old (Event.Ask (Ask.Clean 0 cleanable)) result self.new }
+        ensures { IsTold K.asking TellsTaken self.old (Event.Ask (Ask.Clean 0 cleanable)) result self.new }
     {
         let (answer, held) = self.keeper.carry(
             Event::ask(Ask::Clean {
@@ -158,7 +159,7 @@ impl<K: Keeper> Heap<K> {
     /// The next action in line, whose object was reclaimed; none where nothing stands in line. Its end is told by
     /// `finish_cleaner`.
     pub fn next_job(&mut self) -> Result<Option<Job<K::Held>>, Refusal>
-        ensures { IsTold K.asking TellsJob self.old (Event.Ask Ask.TakeUp) result self.new }
+        ensures { IsTold K.asking TellsTaken self.old (Event.Ask Ask.TakeUp) result self.new }
     {
         let (answer, held) = self.keeper.carry(Event::ask(Ask::TakeUp), None);
         self.follow();

@@ -3,7 +3,7 @@ ghost use Rattle.std.specs.Prelude.{◌≡◌, IfOk, MatchResult, Some, true};
 ghost use Rattle.jlr_core.specs.Events.{carries_none};
 ghost use Rattle.jlr_embed.specs.Kinds.{is_faults, is_handle, is_integer, is_names, is_notes, is_stat, is_truth};
 ghost use Rattle.jlr_embed.specs.Kinds.{kind_asked};
-ghost use Rattle.jlr_heap.specs.Entries.{CannotJoin, Follows, HasJoined, IsDone, IsEntry, IsJoined, counts, faults};
+ghost use Rattle.jlr_heap.specs.Entries.{CannotJoin, FollowsCall, HasJoined, IsDone, IsEntry, IsJoined, counts, faults};
 ghost use Rattle.jlr_heap.specs.Entries.{handle};
 ghost use Rattle.jlr_heap.specs.Entries.{handle_or_null, integer, names, notes, truth};
 
@@ -102,7 +102,7 @@ impl<K: Keeper> Heap<K> {
     /// What follows a call.
     #[inline]
     pub(crate) fn follow(&mut self)
-        ensures { Follows K.asking self.old self.old.keeper self.new }
+        ensures { FollowsCall K.asking self.old self.old.keeper self.new }
     {
         if self.settles {
             self.keeper.settle();

@@ -2,7 +2,7 @@
 ghost use Rattle.std.specs.Prelude.{◌≡◌, Some, true};
 ghost use Rattle.jlr_embed.specs.Kinds.{GoesBack, is_job, is_out, is_told, job_suits, suits};
 ghost use Rattle.jlr_machine.specs.declared.ask.Answer.TheVariants as answer;
-ghost use Rattle.jlr_heap.specs.Guards.{TellsJob, TellsLent, TellsWork};
+ghost use Rattle.jlr_heap.specs.Guards.{TellsTaken, TellsLent, TellsWorkOf};
 
 use jlr_machine::ask::Answer;
 use jlr_types::{ActionNo, Refusal, Work};
@@ -37,7 +37,7 @@ pub struct Declined<R> {
 /// What a job is about.
 fn job_of<R: Drop>(action: ActionNo, work: Work, held: Option<R>) -> Job<R>
     requires { job_suits work held ≡ true }
-    ensures { TellsWork result action work held }
+    ensures { TellsWorkOf result action work held }
 {
     match held {
         Some(held) => Job {
@@ -58,7 +58,7 @@ fn job_of<R: Drop>(action: ActionNo, work: Work, held: Option<R>) -> Job<R>
 pub(crate) fn taken<R: Drop>(answer: &Answer, held: Option<R>) -> Result<Option<Job<R>>, Refusal>
     requires kind { is_told is_job answer.now ≡ true }
     requires suits { suits answer.now held ≡ true }
-    ensures { TellsJob result answer.now held }
+    ensures { TellsTaken result answer.now held }
 {
     match answer {
         Answer::Job { action, work } => Ok(Some(job_of(*action, *work, held))),

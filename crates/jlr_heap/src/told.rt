@@ -2,7 +2,7 @@
 ghost use Rattle.std.specs.Prelude.{◌≡◌, true};
 ghost use Rattle.jlr_embed.specs.Kinds.{is_faults, is_handle, is_integer, is_names, is_notes, is_stat, is_told};
 ghost use Rattle.jlr_embed.specs.Kinds.{is_truth};
-ghost use Rattle.jlr_heap.specs.Entries.{counts, faults, handle, integer, names, notes, truth, Ends};
+ghost use Rattle.jlr_heap.specs.Entries.{counts, faults, handle, integer, names, notes, truth, GivesNothing};
 
 use jlr_machine::ask::{Answer, Stat};
 use jlr_machine::items::Items;
@@ -13,7 +13,7 @@ use jlr_types::{Handle, Refusal};
 /// Nothing but how it ended.
 #[inline(always)]
 pub(crate) fn end(answer: &Answer) -> Result<(), Refusal>
-    ensures { Ends result answer.now }
+    ensures { GivesNothing result answer.now }
 {
     match answer {
         Answer::Refused(by) => Err(*by),

@@ -12,7 +12,7 @@ use Rattle.jlr_machine.specs.declared.object.RefState.TheVariants.{Fresh, Pendin
 use Rattle.jlr_machine.specs.declared.object.CleanState.{CleanState}
 use Rattle.jlr_machine.specs.declared.object.CleanState.TheVariants.{Armed, Pending as PendingClean, Lined, Spent}
 use Rattle.jlr_machine.specs.Objects.{with_value, ◌∋◌, with_field, with_reference, with_members, with_cleanable, is_fresh, is_armed}
-use Rattle.jlr_machine.specs.Collection.{is_ready, is_kept_referent, left_of}
+use Rattle.jlr_machine.specs.Collection.{is_ready, referent_if_kept, left_of}
 use Rattle.jlr_types.specs.declared.FieldValue.TheVariants.{Int, Ref}
 use Rattle.jlr_machine.specs.declared.object.Contents.{Contents}
 use Rattle.jlr_machine.specs.declared.object.Contents.TheVariants.{Typed, Elements}
@@ -145,7 +145,7 @@ spent_on c = record { action = refl; work = refl; referent = inr refl; state = s
 
 -- ---- An object that a collection leaves
 
-referent_left : (kept : List ℕ) (o : Option ℕ) → StaysOrGoes o (is_kept_referent kept o)
+referent_left : (kept : List ℕ) (o : Option ℕ) → StaysOrGoes o (referent_if_kept kept o)
 referent_left kept None = inl refl
 referent_left kept (Some x) = elim (kept ∋ x) as (λ b. StaysOrGoes (Some x) (cond b (Some x) None)) [ true ↦ inl refl | false ↦ inr refl ]
 

@@ -15,7 +15,7 @@ use Rattle.jlr_laws.proofs.Sets.{nothing}
 use Rattle.jlr_laws.proofs.Empty.{well_formed_within}
 use Rattle.jlr_laws.proofs.SeenKept.{keeps_seen, with_seen as unseen}
 use Rattle.jlr_laws.proofs.Law.{legal_kept}
-use Rattle.jlr_histories.specs.CycleLaws.{with_seen, GoesOn, GoesOnStanding, LegalInAllForWhichItStands, CoreStaysWellFormed}
+use Rattle.jlr_histories.specs.CycleLaws.{with_seen, StandsAfter, GoesOnStanding, LegalInAllForWhichItStands, CoreStaysWellFormed}
 use Rattle.jlr_histories.proofs.Seen.{now_seen_gives, reached_is_seen, none_seen}
 use Rattle.jlr_histories.proofs.Legal.{legal_when_more_was_seen}
 use Rattle.jlr_histories.proofs.Left.{leaves_the_same}
@@ -50,7 +50,7 @@ module _ (m : Machine) (e : Entry) (w : IsWellFormed (with_seen m []))
       subst (λ (n : Machine). IsWithinHeap n.objects (roots n)) (leaves_the_same m now e)
       (well_formed_within (apply (with_seen m now) e) kept)
 
-  goes_on : IsLegal (with_seen m now) e → GoesOn (with_seen m []) m e
+  goes_on : IsLegal (with_seen m now) e → StandsAfter (with_seen m []) m e
   goes_on legal = (
     legal_when_more_was_seen (with_seen m now) m.seen e now_was_seen legal,
     subst (λ core. StandsFor core [] (apply m e)) (sym (leaves_the_same m [] e)) (stands_for_seen (done m e) (within_after legal)),
@@ -58,7 +58,7 @@ module _ (m : Machine) (e : Entry) (w : IsWellFormed (with_seen m []))
 
 pub goes_on_standing : GoesOnStanding
 goes_on_standing core m e w s legal =
-    subst (λ core. IsWellFormed core → IsLegal (with_seen core (now_seen core)) e → GoesOn core m e) (sym s.same)
+    subst (λ core. IsWellFormed core → IsLegal (with_seen core (now_seen core)) e → StandsAfter core m e) (sym s.same)
     (λ w legal. goes_on m e w s.seen legal) w legal
 
 pub legal_in_all : LegalInAllForWhichItStands

@@ -29,53 +29,54 @@ use Rattle.jlr_machine.specs.Run.{IsLegal, Answers, with_collection}
 use Rattle.jlr_machine.specs.Run.IsLegal.{carried_out, refused, heap_full, out_of_memory}
 use Rattle.jlr_machine.specs.WellFormed.{IsWellFormed}
 use Rattle.jlr_laws.proofs.Frames.{no_some, some_same}
-use Rattle.jlr_histories.specs.Rooms.{Rooms, Fits, HasRoomFor}
+use Rattle.jlr_histories.specs.Rooms.{Rooms, FitsRooms, HasRoomFor}
 
 module _ (room : Rooms) where
-  plainly : (x a : Answer) → Some x ≡ Some a → Fits room x → Fits room a
-  plainly x a e h = subst (Fits room) (some_same x a e) h
+  plainly : (x a : Answer) → Some x ≡ Some a → FitsRooms room x → FitsRooms room a
+  plainly x a e h = subst (FitsRooms room) (some_same x a e) h
 
-  mapped : {A : Type 0} (f : A → Answer) (o : Option A) (a : Answer) → ((x : A) → Fits room (f x)) → option_map f o ≡ Some a → Fits room a
+  mapped : {A : Type 0} (f : A → Answer) (o : Option A) (a : Answer) → ((x : A) → FitsRooms room (f x)) → option_map f o ≡ Some a
+      → FitsRooms room a
   mapped f None a h e = no_some a e
   mapped f (Some x) a h e = plainly (f x) a e (h x)
 
-  taken_up : (c : CleanableOf) → Fits room (take_up_answer c)
+  taken_up : (c : CleanableOf) → FitsRooms room (take_up_answer c)
   taken_up c =
-      elim (is_spent c.state) as (λ b. Fits room (cond b answer.AlreadyDone (answer.Job c.action c.work))) [ true ↦ tt | false ↦ tt ]
+      elim (is_spent c.state) as (λ b. FitsRooms room (cond b answer.AlreadyDone (answer.Job c.action c.work))) [ true ↦ tt | false ↦ tt ]
 
-  handle : (m : Machine) (k : ℕ) (a : Answer) → new_handle m k ≡ Some a → Fits room a
+  handle : (m : Machine) (k : ℕ) (a : Answer) → new_handle m k ≡ Some a → FitsRooms room a
   handle m k a e = mapped _ (at m.mutators k) a (λ s. tt) e
 
-  handle_or_null : (m : Machine) (k : ℕ) (o : Option ℕ) (a : Answer) → handle_given m k o ≡ Some a → Fits room a
+  handle_or_null : (m : Machine) (k : ℕ) (o : Option ℕ) (a : Answer) → handle_given m k o ≡ Some a → FitsRooms room a
   handle_or_null m k None a e = plainly (answer.Handle 0) a e tt
   handle_or_null m k (Some s) a e = handle m k a e
 
-  number : (o : Option FieldValue) (a : Answer) → option_and_then number_in o ≡ Some a → Fits room a
+  number : (o : Option FieldValue) (a : Answer) → option_and_then number_in o ≡ Some a → FitsRooms room a
   number None a e = no_some a e
   number (Some (IntValue n)) a e = plainly (answer.Int n) a e tt
   number (Some (RefValue s)) a e = no_some a e
 
-  ended : (outcome : Outcome) (success : Option Answer) (a : Answer) → (success ≡ Some a → Fits room a)
-      → outcome_answer outcome success ≡ Some a → Fits room a
+  ended : (outcome : Outcome) (success : Option Answer) (a : Answer) → (success ≡ Some a → FitsRooms room a)
+      → outcome_answer outcome success ≡ Some a → FitsRooms room a
   ended OutcomeOk success a h e = h e
   ended (Failed fault) success a h e = plainly (answer.Faulted fault) a e tt
 
-  called : (k : ℕ) (outcome : CallOutcome) → HasRoomFor (CheckIn k outcome) room → Fits room (call_answer outcome)
+  called : (k : ℕ) (outcome : CallOutcome) → HasRoomFor (CheckIn k outcome) room → FitsRooms room (call_answer outcome)
   called k (GotData bytes) r = r
   called k (GotWrote n) r = tt
   called k (GotFailed fault) r = tt
 
-  handed_over : (m : Machine) (slots : List ℕ) (a : Answer) → hand_over_answer m slots ≡ Some a → Fits room a
+  handed_over : (m : Machine) (slots : List ℕ) (a : Answer) → hand_over_answer m slots ≡ Some a → FitsRooms room a
   handed_over m [] a e = plainly _ a e tt
   handed_over m (s ∷ slots) a e = mapped _ (at m.objects s) a (λ o. tt) e
 
-  lined_up : (m : Machine) (slots : List ℕ) (a : Answer) → line_answer m slots ≡ Some a → Fits room a
+  lined_up : (m : Machine) (slots : List ℕ) (a : Answer) → line_answer m slots ≡ Some a → FitsRooms room a
   lined_up m [] a e = plainly _ a e tt
   lined_up m (s ∷ slots) a e = mapped take_up_answer _ a taken_up e
 
   -- what is answered where the ask is carried out in a well-formed machine
   answered : (m : Machine) (ask : Ask) (o : Option Collected) (a : Answer) → length m.names ≤ 256 → length m.notes ≤ 256
-      → length m.faults ≤ 256 → HasRoomFor ask room → Answers m ask o a → Fits room a
+      → length m.faults ≤ 256 → HasRoomFor ask room → Answers m ask o a → FitsRooms room a
   answered m (Join k) o a x y z r e = plainly answer.Done a e tt
   answered m (Leave k) o a x y z r e = plainly answer.Done a e tt
   answered m (New k layout) o a x y z r e = handle m k a e
@@ -98,7 +99,7 @@ module _ (room : Rooms) where
   answered m (MakeCleaner k) o a x y z r e = handle m k a e
   answered m (Register k d h note) o a x y z r e = handle m k a e
   answered m (Clean k d) o a x y z r e = mapped take_up_answer _ a taken_up e
-  answered m (Prepare k) o a x y z r e = subst (Fits room) (sym e.3) tt
+  answered m (Prepare k) o a x y z r e = subst (FitsRooms room) (sym e.3) tt
   answered m (Opened k outcome) o a x y z r e = ended outcome (new_handle m k) a (handle m k a) e
   answered m (CheckOut k h) o a x y z r e = mapped _ _ a (λ _. tt) e
   answered m (CheckIn k outcome) o a x y z r e = plainly (call_answer outcome) a e (called k outcome r)
@@ -116,7 +117,7 @@ module _ (room : Rooms) where
   answered m HandOver o a x y z r e = handed_over m m.pending a e
   answered m TakeUp o a x y z r e = lined_up m (from_lined m m.line) a e
   answered m Begin o a x y z r e = plainly _ a e tt
-  answered m Collect o a x y z r e = subst (Fits room) (sym e) tt
+  answered m Collect o a x y z r e = subst (FitsRooms room) (sym e) tt
   answered m Abandon o a x y z r e = plainly _ a e tt
   answered m (Array k n) o a x y z r e = handle m k a e
 
@@ -126,9 +127,9 @@ after_collected : (m : Machine) (o : Option Collected) → IsWellFormed m → (l
 after_collected m None w = (w.sessions.names_limit, w.notes, w.faults)
 after_collected m (Some c) w = (w.sessions.names_limit, w.notes, w.faults)
 
-pub answers_fit : (m : Machine) (e : Entry) (room : Rooms) → IsWellFormed m → IsLegal m e → HasRoomFor e.ask room → Fits room e.answer
+pub answers_fit : (m : Machine) (e : Entry) (room : Rooms) → IsWellFormed m → IsLegal m e → HasRoomFor e.ask room → FitsRooms room e.answer
 answers_fit m e room w (carried_out c) r = let l = after_collected m e.choice.collected w in
     answered room (with_collection m e.choice.collected) e.ask e.choice.collected e.answer l.0 l.1 l.2 r c.answers
-answers_fit m e room w (refused x) r = subst (Fits room) (sym x.answers) tt
-answers_fit m e room w (heap_full x) r = subst (Fits room) (sym x.answers) tt
-answers_fit m e room w (out_of_memory x) r = subst (Fits room) (sym x.answers) tt
+answers_fit m e room w (refused x) r = subst (FitsRooms room) (sym x.answers) tt
+answers_fit m e room w (heap_full x) r = subst (FitsRooms room) (sym x.answers) tt
+answers_fit m e room w (out_of_memory x) r = subst (FitsRooms room) (sym x.answers) tt

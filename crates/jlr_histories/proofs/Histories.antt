@@ -6,13 +6,13 @@ use Rattle.jlr_machine.specs.Run.{empty_from}
 use Rattle.jlr_machine.specs.WellFormed.{IsWellFormed}
 use Rattle.jlr_laws.proofs.Empty.{empty_from_is_well_formed}
 use Rattle.jlr_laws.proofs.Law.{run_kept}
-use Rattle.jlr_histories.specs.Laws.{IsHistory, ReferencesGoForwardInHistories, CleanablesGoForwardInHistories}
+use Rattle.jlr_histories.specs.Laws.{IsRunFromEmpty, ReferencesGoForwardInHistories, CleanablesGoForwardInHistories}
 use Rattle.jlr_histories.specs.Laws.{EnqueuedAtMostOnceInHistories, TakenUpAtMostOnceInRuns, TakeUpsEndOrRun}
 use Rattle.jlr_histories.proofs.Forward.{reference_life, cleanable_life}
 use Rattle.jlr_histories.proofs.Enqueued.{enqueued_at_most_once}
 use Rattle.jlr_histories.proofs.TakenOnce.{taken_up_at_most_once, take_ups_are_counted}
 
-well_formed : (m n : Machine) (entries : List Entry) → IsHistory m entries n → IsWellFormed m
+well_formed : (m n : Machine) (entries : List Entry) → IsRunFromEmpty m entries n → IsWellFormed m
 well_formed m n entries h =
     let start = empty_from h.cells h.sessions h.resources h.next_action in
     run_kept start m h.before (empty_from_is_well_formed h.cells h.sessions h.resources h.next_action h.started h.few_cells h.few_sessions)

@@ -40,18 +40,18 @@ abbrev pub StandsForItself : Type 0
 StandsForItself = (m : Machine) → m.cycle_open ≡ false → m.seen ≡ [] → StandsFor m [] m
 
 -- the entry is legal in the machine, and the core stands for what the machine becomes
-abbrev pub GoesOn : Machine → Machine → Entry → Type 0
-GoesOn core m e = IsLegal m e × StandsFor (with_seen (done core e) []) [] (apply m e)
+abbrev pub StandsAfter : Machine → Machine → Entry → Type 0
+StandsAfter core m e = IsLegal m e × StandsFor (with_seen (done core e) []) [] (apply m e)
 
 -- what is legal where just what the roots now reach was seen
 abbrev pub GoesOnStanding : Type 0
 GoesOnStanding = (core m : Machine) (e : Entry) → IsWellFormed core → StandsFor core [] m
-    → IsLegal (with_seen core (now_seen core)) e → GoesOn core m e
+    → IsLegal (with_seen core (now_seen core)) e → StandsAfter core m e
 
 -- what is legal where nothing was seen
 abbrev pub LegalInAllForWhichItStands : Type 0
 LegalInAllForWhichItStands = (core m : Machine) (e : Entry) → IsWellFormed core → StandsFor core [] m → IsLegal core e
-    → GoesOn core m e
+    → StandsAfter core m e
 
 -- after either the core's machine is well formed again
 abbrev pub CoreStaysWellFormed : Type 0

@@ -150,7 +150,7 @@ WaitingResourcesAreIdle = (m : Machine) (s rid : ℕ) (c : CleanableOf) → IsWe
 -- ---- The same from an empty machine on
 
 -- a run leads from an empty machine of some limits to m, and another from there to n
-pub record IsHistory (m : Machine) (entries : List Entry) (n : Machine) : Type 0 where
+pub record IsRunFromEmpty (m : Machine) (entries : List Entry) (n : Machine) : Type 0 where
   pub cells : ℕ
   pub sessions : ℕ
   pub resources : ℕ
@@ -164,16 +164,16 @@ pub record IsHistory (m : Machine) (entries : List Entry) (n : Machine) : Type 0
 
 abbrev pub ReferencesGoForwardInHistories : Type 0
 ReferencesGoForwardInHistories =
-    (m n : Machine) (entries : List Entry) (s : ℕ) (r : ReferenceOf) → IsHistory m entries n → LivesOn m entries s
+    (m n : Machine) (entries : List Entry) (s : ℕ) (r : ReferenceOf) → IsRunFromEmpty m entries n → LivesOn m entries s
     → IsReferenceAt m s r → (t : ReferenceOf) × IsReferenceAt n s t × IsReferenceLater r t
 
 abbrev pub CleanablesGoForwardInHistories : Type 0
 CleanablesGoForwardInHistories =
-    (m n : Machine) (entries : List Entry) (s : ℕ) (c : CleanableOf) → IsHistory m entries n → LivesOn m entries s
+    (m n : Machine) (entries : List Entry) (s : ℕ) (c : CleanableOf) → IsRunFromEmpty m entries n → LivesOn m entries s
     → IsCleanableAt m s c → (d : CleanableOf) × IsCleanableAt n s d × IsCleanableLater c d
 
 abbrev pub EnqueuedAtMostOnceInHistories : Type 0
-EnqueuedAtMostOnceInHistories = (m n : Machine) (entries : List Entry) (s : ℕ) → IsHistory m entries n
+EnqueuedAtMostOnceInHistories = (m n : Machine) (entries : List Entry) (s : ℕ) → IsRunFromEmpty m entries n
     → LivesOn m entries s → enqueueings m entries s ≤ 1
 
 -- in a run from an empty machine each action is taken up at most once

@@ -20,12 +20,12 @@ pub record Rooms : Type 0 where
   pub faults : ℕ
   pub bytes : ℕ
 
-abbrev pub Fits : Rooms → Answer → Type 0
-Fits room (Names items) = length items ≤ room.names
-Fits room (Notes items) = length items ≤ room.notes
-Fits room (Faults items) = length items ≤ room.faults
-Fits room (Data bytes) = 1 ≤ room.bytes
-Fits room answer = Unit {0}
+abbrev pub FitsRooms : Rooms → Answer → Type 0
+FitsRooms room (Names items) = length items ≤ room.names
+FitsRooms room (Notes items) = length items ≤ room.notes
+FitsRooms room (Faults items) = length items ≤ room.faults
+FitsRooms room (Data bytes) = 1 ≤ room.bytes
+FitsRooms room answer = Unit {0}
 
 -- the most items of a list
 abbrev pub most_items : ℕ
@@ -43,7 +43,7 @@ HasRoomFor ask room = Unit {0}
 
 abbrev pub AnswersFit : Type 0
 AnswersFit = (m : Machine) (e : Entry) (room : Rooms) → IsWellFormed m → IsLegal m e → HasRoomFor e.ask room
-    → Fits room e.answer
+    → FitsRooms room e.answer
 
 -- no more new objects than the ask makes
 abbrev pub NewObjectsFit : Type 0

@@ -13,7 +13,7 @@ use Rattle.jlr_machine.specs.declared.object.CleanState.TheVariants.{Pending as 
 use Rattle.jlr_machine.specs.Objects.{Heap, at, ◌∋◌, ◌∈◌, any_referent}
 use Rattle.jlr_machine.specs.Edges.{Chain, edges, edges_from, is_kind, referent}
 use Rattle.jlr_machine.specs.Reachable.{IsPath, IsReached, HasStrength, chain_by, chain_below}
-use Rattle.jlr_machine.specs.Collection.{Clears, without_referent, IsCollection, is_kept_referent, made_pending, left_of, places_left}
+use Rattle.jlr_machine.specs.Collection.{Clears, without_referent, IsCollection, referent_if_kept, made_pending, left_of, places_left}
 use Rattle.jlr_machine.specs.ReachSet.{reach_set}
 use Rattle.jlr_machine.specs.Edges.Chain.{UpToSoft, UpToWeak, UpToPhantom, Strong}
 use Rattle.jlr_laws.proofs.Sets.{nothing, filter_in, in_filter}
@@ -111,7 +111,7 @@ without_none (Cleanable c) e = ap (λ x. Cleanable (record c { referent = x })) 
 without_none (Guard g) e = refl
 
 -- the object with this referent
-left_with : (kept : List ℕ) (b : Bool) (o : Object) → is_kept_referent kept (any_referent o) ≡ any_referent o
+left_with : (kept : List ℕ) (b : Bool) (o : Object) → referent_if_kept kept (any_referent o) ≡ any_referent o
     → left_of kept b o ≡ made_pending b o
 left_with kept b (Plain fields) e = refl
 left_with kept b (Reference r) e = ap (λ x. Reference (record r { referent = x; state = cond b Pending r.state })) e
@@ -120,7 +120,7 @@ left_with kept b Cleaner e = refl
 left_with kept b (Cleanable c) e = ap (λ x. Cleanable (record c { referent = x; state = cond b PendingClean c.state })) e
 left_with kept b (Guard g) e = refl
 
-left_without : (kept : List ℕ) (b : Bool) (o : Object) → is_kept_referent kept (any_referent o) ≡ None
+left_without : (kept : List ℕ) (b : Bool) (o : Object) → referent_if_kept kept (any_referent o) ≡ None
     → left_of kept b o ≡ made_pending b (without_referent o)
 left_without kept b (Plain fields) e = refl
 left_without kept b (Reference r) e = ap (λ x. Reference (record r { referent = x; state = cond b Pending r.state })) e
@@ -330,14 +330,14 @@ module _ (heap : Heap) (B kept pending : List ℕ) (c : IsCollection heap B kept
       → Some (left_of kept b o) ≡ option_map (made_pending b) (at c.phantom_left s)
   kept_object s o b m e =
       elim (any_referent o) as (λ r. any_referent o ≡ r → Some (left_of kept b o) ≡ option_map (made_pending b) (at c.phantom_left s)) [
-        | None ↦ λ f. ap (λ p. Some p) (left_with kept b o (ap (is_kept_referent kept) f ∙ sym f))
+        | None ↦ λ f. ap (λ p. Some p) (left_with kept b o (ap (referent_if_kept kept) f ∙ sym f))
             ∙ ap (option_map (made_pending b)) (sym (no_referent s o e f))
         | Some x ↦ λ f. elim (cases_Bool (kept ∋ x)) [
           | inl in_kept ↦ ap (λ p. Some p) (left_with kept b o
-              (ap (is_kept_referent kept) f ∙ cond-true (kept ∋ x) (Some x) None in_kept ∙ sym f))
+              (ap (referent_if_kept kept) f ∙ cond-true (kept ∋ x) (Some x) None in_kept ∙ sym f))
               ∙ ap (option_map (made_pending b)) (sym (keeps_referent s x o e f in_kept))
           | inr not_kept ↦ ap (λ p. Some p) (left_without kept b o
-              (ap (is_kept_referent kept) f ∙ cond-false (kept ∋ x) (Some x) None not_kept))
+              (ap (referent_if_kept kept) f ∙ cond-false (kept ∋ x) (Some x) None not_kept))
               ∙ ap (option_map (made_pending b)) (sym (loses_referent s x o m e f not_kept))
         ]
       ] refl

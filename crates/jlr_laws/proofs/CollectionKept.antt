@@ -22,7 +22,7 @@ use Rattle.jlr_machine.specs.declared.machine.ResourceState.TheVariants.{Opening
 use Rattle.jlr_machine.specs.Objects.{Heap, at, ◌∋◌, ◌∈◌, some_and, as_reference, as_cleanable, is_fresh, is_armed}
 use Rattle.jlr_machine.specs.Objects.{any_referent, is_spent, queue_ahead}
 use Rattle.jlr_machine.specs.Edges.{strong_edges, edges_from, is_own_root, is_active, roots}
-use Rattle.jlr_machine.specs.Collection.{is_ready, is_kept_referent, left_of, places_left, after_collection}
+use Rattle.jlr_machine.specs.Collection.{is_ready, referent_if_kept, left_of, places_left, after_collection}
 use Rattle.jlr_machine.specs.Lookups.{job_of, slot_named}
 use Rattle.jlr_machine.specs.Refusals.{Operand, is_of_wrong_kind}
 use Rattle.jlr_machine.specs.WellFormed.{IsObjectAt, IsReferenceAt, IsQueueAt, IsGuardAt, IsCleanableAt, IsSessionAt, IsWellFormed}
@@ -116,7 +116,7 @@ module _ (m : Machine) (B kept pending : List ℕ) (w : IsWellFormed m) (l : IsL
   ]
 
   reference_handed : (s : ℕ) (r : ReferenceOf) → IsReferenceAt m s r → s ∈ pending → IsTrue (is_some r.queue)
-      × (is_kept_referent kept r.referent ≡ None)
+      × (referent_if_kept kept r.referent ≡ None)
   reference_handed s r e p =
       let h = l.lost s p in
       let same : h.0 ≡ Reference r = some_same h.0 (Reference r) (sym h.3 ∙ e) in (
@@ -281,7 +281,7 @@ module _ (m : Machine) (B kept pending : List ℕ) (w : IsWellFormed m) (l : IsL
         object_forth x (l.strong s x b.0 b.1 b.2 old) (w.slots.edges s x (edge_from UpToPhantom m.objects s x (inl (b.0, b.2, old))))
     | inr e ↦
         let b = back s e.2.0 e.2.1 in
-        let any : is_kept_referent kept (any_referent b.0) ≡ Some x = sym (referent_left kept (pending ∋ s) b.0) ∙ sym (ap any_referent b.3)
+        let any : referent_if_kept kept (any_referent b.0) ≡ Some x = sym (referent_left kept (pending ∋ s) b.0) ∙ sym (ap any_referent b.3)
         ∙ referent_is e.0 e.2.0 x e.2.2 in
         let r = kept_referent kept (any_referent b.0) x any in
         let k = some_kind b.0 x r.0 in
@@ -377,7 +377,7 @@ module _ (m : Machine) (B kept pending : List ℕ) (w : IsWellFormed m) (l : IsL
       ap (λ c. c.referent) x.3
       ∙ elim (cases_Bool (pending ∋ s)) [
         | inl p ↦ let h = cleanable_handed s x.0 x.2 p in loses_referent_out kept x.0.referent h.1.0 h.1.1 h.1.2
-        | inr q ↦ ap (is_kept_referent kept) (w.actions.referents s x.0 x.2
+        | inr q ↦ ap (referent_if_kept kept) (w.actions.referents s x.0 x.2
             (λ a. d (ap (λ c. c.state) x.3 ∙ cond-false (pending ∋ s) PendingClean x.0.state q ∙ a)))
       ]
 

@@ -9,7 +9,8 @@ use Rattle.jlr_machine.specs.Reachable.{HasStrength}
 use Rattle.jlr_machine.specs.Collection.{IsAllowed, Clears}
 use Rattle.jlr_machine.specs.Edges.Chain.{Strong, UpToPhantom, UpToSoft}
 use Rattle.jlr_laws.specs.Laws.{IsWithinHeap, IsSeenWithin, only, BackgroundComesDownToCuttingOff, PolicyMakesFull}
-use Rattle.jlr_laws.specs.Laws.{KeepingNoneMakesClearing, RoundsFindWhatPathsReach, ClearsAsSpecified, RefersTo, EachClearingIsAsSpecified}
+use Rattle.jlr_laws.specs.Laws.{KeepingNoneMakesClearing, RoundsFindWhatPathsReach, ClearsAsSpecified, RefersByKind}
+use Rattle.jlr_laws.specs.Laws.{EachClearingIsAsSpecified}
 use Rattle.jlr_laws.specs.Laws.{LeavesWhatItsStepsLeave, ComesDownToCuttingOff, SoftReferencesGoBeforeAFullHeap}
 use Rattle.jlr_laws.proofs.Paths.{AreEdgesWithin, reached_sound, reached_complete}
 use Rattle.jlr_laws.proofs.Clearing.{edge_from, cleared_or_kept, same_some, in_append, in_left, in_right}
@@ -91,7 +92,7 @@ keeping_none_makes_clearing m keeps kept pending w none c =
 module _ (kind : RefKind) (C : ℕ → Type 0) (B : List ℕ) (old new : Heap) (c : Clears kind C old new) (dec : (x : ℕ) → C x ⊎ ¬ (C x))
     (allowed : IsAllowed kind old B C) where
   -- a referent that was lost is of the set
-  lost : (s x : ℕ) → RefersTo kind old s x → ¬ (at new s ≡ at old s) → C x
+  lost : (s x : ℕ) → RefersByKind kind old s x → ¬ (at new s ≡ at old s) → C x
   lost s x e n = elim (cleared_or_kept kind C old new c dec s) [
     | inl k ↦ subst C (same_some k.0 x (sym k.3 ∙ sym (ap (option_and_then (referent kind)) k.2) ∙ e)) k.4
     | inr k ↦ absurd (n k.1)

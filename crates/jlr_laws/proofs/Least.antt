@@ -5,7 +5,7 @@ use Rattle.jlr_machine.specs.Objects.{Heap, ◌∈◌}
 use Rattle.jlr_machine.specs.Edges.{edges_from}
 use Rattle.jlr_machine.specs.Reachable.{IsReached}
 use Rattle.jlr_machine.specs.Edges.Chain.{Strong, UpToSoft}
-use Rattle.jlr_laws.specs.Laws.{only, followed, IsPathFollowed, IsLeast}
+use Rattle.jlr_laws.specs.Laws.{only, followed, IsPathFollowed, IsLeastMarking}
 use Rattle.jlr_laws.proofs.Clearing.{HasEdge, edge_gives, edge_from}
 use Rattle.jlr_laws.proofs.Agree.{one_edge_more, carried, at_base}
 use Rattle.jlr_laws.proofs.Only.{inside_forth}
@@ -28,7 +28,7 @@ strong_followed keeps heap x y h =
       | false ↦ h
     ]
 
-module _ (keeps : ℕ → Bool) (heap : Heap) (B kept : List ℕ) (c : IsLeast keeps heap B kept) where
+module _ (keeps : ℕ → Bool) (heap : Heap) (B kept : List ℕ) (c : IsLeastMarking keeps heap B kept) where
   -- what holds of the base and goes along each followed edge between kept objects holds of all that is kept
   module _ (P : ℕ → Type 0) (step : (x y : ℕ) → P x → x ∈ kept → y ∈ followed keeps heap x → P y) where
     along_followed : (x : ℕ) (path : List ℕ) (y : ℕ) → P x → x ∈ kept → IsPathFollowed keeps heap x path y → P y

@@ -15,7 +15,7 @@ use Rattle.jlr_machine.specs.declared.object.CleanState.TheVariants.{Armed, Pend
 use Rattle.jlr_machine.specs.Objects.{Heap, ◌∋◌, ◌∈◌, is_distinct, as_reference, as_cleanable, is_fresh, is_armed}
 use Rattle.jlr_machine.specs.Objects.{any_referent, is_spent, is_unqueued}
 use Rattle.jlr_machine.specs.Edges.{strong_edges, is_own_root}
-use Rattle.jlr_machine.specs.Collection.{is_ready, is_kept_referent, left_of, places_left}
+use Rattle.jlr_machine.specs.Collection.{is_ready, referent_if_kept, left_of, places_left}
 use Rattle.jlr_machine.specs.WellFormed.{FitsItsState}
 use Rattle.jlr_machine.specs.WellFormed.{is_unspent_place}
 use Rattle.jlr_laws.proofs.Sets.{in_front}
@@ -45,10 +45,10 @@ distinct_append (x ∷ xs) ys d e h =
 
 module _ (kept : List ℕ) (b : Bool) where
   abbrev pub left_reference : ReferenceOf → ReferenceOf
-  left_reference r = record r { referent = is_kept_referent kept r.referent; state = cond b Pending r.state }
+  left_reference r = record r { referent = referent_if_kept kept r.referent; state = cond b Pending r.state }
 
   abbrev pub left_cleanable : CleanableOf → CleanableOf
-  left_cleanable c = record c { referent = is_kept_referent kept c.referent; state = cond b PendingClean c.state }
+  left_cleanable c = record c { referent = referent_if_kept kept c.referent; state = cond b PendingClean c.state }
 
   pub reference_before : (o : Object) (r : ReferenceOf) → Reference r ≡ left_of kept b o → (x : ReferenceOf) × (o ≡ Reference x)
       × (r ≡ left_reference x)
@@ -110,7 +110,7 @@ module _ (kept : List ℕ) (b : Bool) where
   strong_same (Cleanable x) h = refl
   strong_same (Guard g) h = refl
 
-  pub referent_left : (o : Object) → any_referent (left_of kept b o) ≡ is_kept_referent kept (any_referent o)
+  pub referent_left : (o : Object) → any_referent (left_of kept b o) ≡ referent_if_kept kept (any_referent o)
   referent_left (Plain fields) = refl
   referent_left (Reference x) = refl
   referent_left (Queue members) = refl
@@ -118,7 +118,7 @@ module _ (kept : List ℕ) (b : Bool) where
   referent_left (Cleanable x) = refl
   referent_left (Guard g) = refl
 
-pub kept_referent : (kept : List ℕ) (y : Option ℕ) (x : ℕ) → is_kept_referent kept y ≡ Some x → (y ≡ Some x) × (x ∈ kept)
+pub kept_referent : (kept : List ℕ) (y : Option ℕ) (x : ℕ) → referent_if_kept kept y ≡ Some x → (y ≡ Some x) × (x ∈ kept)
 kept_referent kept None x e = no_some x e
 kept_referent kept (Some y) x e = elim (cases_Bool (kept ∋ y)) [
   | inl m ↦
@@ -127,11 +127,11 @@ kept_referent kept (Some y) x e = elim (cases_Bool (kept ∋ y)) [
   | inr n ↦ no_some x (sym (cond-false (kept ∋ y) (Some y) None n) ∙ e)
 ]
 
-pub keeps_referent_in : (kept : List ℕ) (y : Option ℕ) (x : ℕ) → y ≡ Some x → x ∈ kept → is_kept_referent kept y ≡ Some x
-keeps_referent_in kept y x e m = ap (is_kept_referent kept) e ∙ cond-true (kept ∋ x) (Some x) None m
+pub keeps_referent_in : (kept : List ℕ) (y : Option ℕ) (x : ℕ) → y ≡ Some x → x ∈ kept → referent_if_kept kept y ≡ Some x
+keeps_referent_in kept y x e m = ap (referent_if_kept kept) e ∙ cond-true (kept ∋ x) (Some x) None m
 
-pub loses_referent_out : (kept : List ℕ) (y : Option ℕ) (x : ℕ) → y ≡ Some x → (kept ∋ x) ≡ false → is_kept_referent kept y ≡ None
-loses_referent_out kept y x e n = ap (is_kept_referent kept) e ∙ cond-false (kept ∋ x) (Some x) None n
+pub loses_referent_out : (kept : List ℕ) (y : Option ℕ) (x : ℕ) → y ≡ Some x → (kept ∋ x) ≡ false → referent_if_kept kept y ≡ None
+loses_referent_out kept y x e n = ap (referent_if_kept kept) e ∙ cond-false (kept ∋ x) (Some x) None n
 
 abbrev pub state_in : Option Object → Option RefState
 state_in o = option_and_then (λ r. Some r.state) (option_and_then as_reference o)
@@ -230,9 +230,9 @@ unspent_is (Some (Guard g)) e = absurd (both_ways false refl e)
 
 pub fits_left : (kept : List ℕ) (b : Bool) (r : ReferenceOf) (s : RefState) → FitsItsState r s → FitsItsState (left_reference kept b r) s
 fits_left kept b r Fresh h = h
-fits_left kept b r Pending h = (h.0, ap (is_kept_referent kept) h.1)
-fits_left kept b r Queued h = (h.0, ap (is_kept_referent kept) h.1)
-fits_left kept b r Removed h = (h.0, ap (is_kept_referent kept) h.1)
+fits_left kept b r Pending h = (h.0, ap (referent_if_kept kept) h.1)
+fits_left kept b r Queued h = (h.0, ap (referent_if_kept kept) h.1)
+fits_left kept b r Removed h = (h.0, ap (referent_if_kept kept) h.1)
 
 pub holds_somewhere : (o : Option Object) → is_own_root o ≡ true → is_some o ≡ true
 holds_somewhere None e = e

@@ -49,8 +49,8 @@ RoundsFindWhatPathsReach = (chain : Chain) (heap : Heap) (B : List ℕ) → IsWi
 
 -- ---- Each clearing of a collection is one that the package specification allows, in its words
 
-abbrev pub RefersTo : RefKind → Heap → ℕ → ℕ → Type 0
-RefersTo kind heap s x = option_and_then (referent kind) (at heap s) ≡ Some x
+abbrev pub RefersByKind : RefKind → Heap → ℕ → ℕ → Type 0
+RefersByKind kind heap s x = option_and_then (referent kind) (at heap s) ≡ Some x
 
 abbrev pub IsClearedAt : Heap → Heap → ℕ → Type 0
 IsClearedAt old new s = at new s ≡ option_map without_referent (at old s)
@@ -58,17 +58,17 @@ IsClearedAt old new s = at new s ≡ option_map without_referent (at old s)
 -- "to it" below is x, to which some reference that lost its referent referred
 pub record ClearsAsSpecified (kind : RefKind) (B : List ℕ) (old new : Heap) : Type 0 where
   -- it is softly, weakly or phantom reachable
-  pub found : (s x : ℕ) → RefersTo kind old s x → ¬ (at new s ≡ at old s) → HasStrength kind old B x
+  pub found : (s x : ℕ) → RefersByKind kind old s x → ¬ (at new s ≡ at old s) → HasStrength kind old B x
   -- all references of the kind to it are cleared
-  pub all : (s x : ℕ) → RefersTo kind old s x → ¬ (at new s ≡ at old s) → (t : ℕ) → RefersTo kind old t x
+  pub all : (s x : ℕ) → RefersByKind kind old s x → ¬ (at new s ≡ at old s) → (t : ℕ) → RefersByKind kind old t x
       → IsClearedAt old new t
   -- and all to any other such object from which it is reachable through a chain of stronger edges
-  pub chained : (s x : ℕ) → RefersTo kind old s x → ¬ (at new s ≡ at old s) → (y t : ℕ) → HasStrength kind old B y
-      → Reaches (chain_below kind) old y x → RefersTo kind old t y → IsClearedAt old new t
+  pub chained : (s x : ℕ) → RefersByKind kind old s x → ¬ (at new s ≡ at old s) → (y t : ℕ) → HasStrength kind old B y
+      → Reaches (chain_below kind) old y x → RefersByKind kind old t y → IsClearedAt old new t
 
 -- at that time all references of the kind to objects that are so reachable are cleared
 abbrev pub ClearsAll : RefKind → List ℕ → Heap → Heap → Type 0
-ClearsAll kind B old new = (x t : ℕ) → HasStrength kind old B x → RefersTo kind old t x → IsClearedAt old new t
+ClearsAll kind B old new = (x t : ℕ) → HasStrength kind old B x → RefersByKind kind old t x → IsClearedAt old new t
 
 pub record AsSpecified (heap : Heap) (B kept pending : List ℕ) (c : IsCollection heap B kept pending) : Type 0 where
   pub soft : ClearsAsSpecified Soft B heap c.soft_left
@@ -154,14 +154,14 @@ IsPathFollowed keeps heap x [] y = x ≡ y
 IsPathFollowed keeps heap x (z ∷ path) y = (z ∈ followed keeps heap x) × IsPathFollowed keeps heap z path y
 
 -- the least set that holds B and with each member what its followed edges lead to
-pub record IsLeast (keeps : ℕ → Bool) (heap : Heap) (B kept : List ℕ) : Type 0 where
+pub record IsLeastMarking (keeps : ℕ → Bool) (heap : Heap) (B kept : List ℕ) : Type 0 where
   pub holds_base : (s : ℕ) → s ∈ B → s ∈ kept
   pub closed : (x y : ℕ) → x ∈ kept → y ∈ followed keeps heap x → y ∈ kept
   pub least : (s : ℕ) → s ∈ kept → (x : ℕ) × (x ∈ B) × (path : List ℕ) × IsPathFollowed keeps heap x path s
 
 -- and what a full collection that keeps it hands over
-pub record IsMarked (keeps : ℕ → Bool) (heap : Heap) (B kept pending : List ℕ) : Type 0 where
-  pub marked : IsLeast keeps heap B kept
+pub record IsFullMarking (keeps : ℕ → Bool) (heap : Heap) (B kept pending : List ℕ) : Type 0 where
+  pub marked : IsLeastMarking keeps heap B kept
   pub pended : (s : ℕ) → (s ∈ pending) ↔ LosesReferent heap kept s
   pub once : IsTrue (is_distinct pending)
   pub rising : IsTrue (is_rising kept)
@@ -169,12 +169,12 @@ pub record IsMarked (keeps : ℕ → Bool) (heap : Heap) (B kept pending : List 
 -- whatever the policy, that is a full collection; and one that keeps no soft reference is one that clears all
 abbrev pub PolicyMakesFull : Type 0
 PolicyMakesFull = (m : Machine) (keeps : ℕ → Bool) (kept pending : List ℕ) → IsWithinHeap m.objects (roots m)
-    → IsMarked keeps m.objects (roots m) kept pending → IsFull m kept pending
+    → IsFullMarking keeps m.objects (roots m) kept pending → IsFull m kept pending
 
 abbrev pub KeepingNoneMakesClearing : Type 0
 KeepingNoneMakesClearing =
     (m : Machine) (keeps : ℕ → Bool) (kept pending : List ℕ) → IsWithinHeap m.objects (roots m)
-    → ((s : ℕ) → keeps s ≡ false) → IsMarked keeps m.objects (roots m) kept pending → IsFullClearing m kept pending
+    → ((s : ℕ) → keeps s ≡ false) → IsFullMarking keeps m.objects (roots m) kept pending → IsFullClearing m kept pending
 
 -- ---- Before a full heap is answered all soft references to softly reachable objects are cleared
 

@@ -8,7 +8,7 @@ use lib.ListN.{get_elem?}
 use Rattle.atomic_table.proofs.Lists.{at_set}
 use Rattle.jlr_log.specs.declared.rule.View.{View}
 use Rattle.jlr_log.specs.Views.{knower, sitter, nobody, meeting, own}
-use Rattle.jlr_log.specs.Rule.{Knows, Fits, Kept}
+use Rattle.jlr_log.specs.Rule.{Knows, Fits, KeptViews}
 use Rattle.jlr_log.specs.Seeing.{AllOf, IsSeated}
 
 off : false ≡ true → ⊥
@@ -49,15 +49,16 @@ module _ {E : Type 0} (owner : E → ℕ) where
     filter-append _ k.0 told ∙ ap (λ l. l ++ own owner seat told) k.2 ∙ none,
   )
 
-  pub begins : Kept owner (knower [] 0 ∷ [])
+  pub begins : KeptViews owner (knower [] 0 ∷ [])
   begins = (0, (λ _. 0), 0, [], one)
     where
       one : (by : ℕ) (v : View E) → get_elem? (knower [] 0 ∷ []) by ≡ some v → Fits owner 0 (λ _. 0) 0 [] by v
       one zero v e = subst (Fits owner 0 (λ _. 0) 0 [] 0) (some-injective _ _ e) ((λ _. (refl, refl, refl)), (λ s. absurd (off s)))
       one (suc by) v e = absurd (some-ne-none v (sym e))
 
-  pub deals : (views : List (View E)) (by : ℕ) (all : List E) (dealt : ℕ) → Kept owner views → get_elem? views by ≡ some (knower all dealt)
-      → Kept owner (set views by (knower all (dealt + 1)) ++ sitter dealt all ∷ [])
+  pub deals : (views : List (View E)) (by : ℕ) (all : List E) (dealt : ℕ) → KeptViews owner views → get_elem? views by
+      ≡ some (knower all dealt)
+      → KeptViews owner (set views by (knower all (dealt + 1)) ++ sitter dealt all ∷ [])
   deals views by all dealt h at =
       let keeper = h.0 in
       let holder = h.1 in
@@ -100,10 +101,10 @@ module _ {E : Type 0} (owner : E → ℕ) where
             (at_end (set views by w) (sitter dealt all) u j e),
       )
 
-  pub meets : (views : List (View E)) (by : ℕ) (all : List E) (dealt other seat : ℕ) (known : List E) → Kept owner views
+  pub meets : (views : List (View E)) (by : ℕ) (all : List E) (dealt other seat : ℕ) (known : List E) → KeptViews owner views
       → get_elem? views by ≡ some (knower all dealt)
       → (¬ (other ≡ by)) → get_elem? (set views by (meeting all dealt seat known)) other ≡ some (sitter seat known)
-      → Kept owner (set (set views by (meeting all dealt seat known)) other nobody)
+      → KeptViews owner (set (set views by (meeting all dealt seat known)) other nobody)
   meets views by all dealt other seat known h at apart there =
       let keeper = h.0 in
       let holder = h.1 in
@@ -140,9 +141,9 @@ module _ {E : Type 0} (owner : E → ℕ) where
       )
 
   pub adds : (views : List (View E)) (by : ℕ) (all : List E) (dealt seat : ℕ) (known told : List E) → AllOf owner seat told
-      → Kept owner views
+      → KeptViews owner views
       → get_elem? views by ≡ some (meeting all dealt seat known)
-      → Kept owner (set views by (meeting (all ++ told) dealt seat (all ++ told))) × Knows owner seat known all
+      → KeptViews owner (set views by (meeting (all ++ told) dealt seat (all ++ told))) × Knows owner seat known all
   adds views by all dealt seat known told its h at =
       let keeper = h.0 in
       let holder = h.1 in
@@ -179,9 +180,9 @@ module _ {E : Type 0} (owner : E → ℕ) where
         subst (Knows owner seat known) (sym mine.1) sits.2,
       )
 
-  pub parts : (views : List (View E)) (by : ℕ) (all : List E) (dealt seat : ℕ) (known : List E) → Kept owner views
+  pub parts : (views : List (View E)) (by : ℕ) (all : List E) (dealt seat : ℕ) (known : List E) → KeptViews owner views
       → get_elem? views by ≡ some (meeting all dealt seat known)
-      → Kept owner (set views by (knower all dealt) ++ sitter seat known ∷ [])
+      → KeptViews owner (set views by (knower all dealt) ++ sitter seat known ∷ [])
   parts views by all dealt seat known h at =
       let keeper = h.0 in
       let holder = h.1 in
@@ -222,26 +223,27 @@ module _ {E : Type 0} (owner : E → ℕ) where
       )
 
   -- the moves, at a view that is known
-  pub deals_as : (views : List (View E)) (by : ℕ) (v : View E) → v ≡ knower v.all v.dealt → Kept owner views → get_elem? views by ≡ some v
-      → Kept owner (set views by (knower v.all (v.dealt + 1)) ++ sitter v.dealt v.all ∷ [])
+  pub deals_as : (views : List (View E)) (by : ℕ) (v : View E) → v ≡ knower v.all v.dealt → KeptViews owner views → get_elem? views by
+      ≡ some v
+      → KeptViews owner (set views by (knower v.all (v.dealt + 1)) ++ sitter v.dealt v.all ∷ [])
   deals_as views by v is h at = deals views by v.all v.dealt h (at ∙ ap some is)
 
   pub meets_as : (views : List (View E)) (by : ℕ) (v : View E) (other : ℕ) (w : View E) → v ≡ knower v.all v.dealt
-      → w ≡ sitter w.seat w.known → Kept owner views
+      → w ≡ sitter w.seat w.known → KeptViews owner views
       → get_elem? views by ≡ some v → (¬ (other ≡ by)) → get_elem? (set views by (meeting v.all v.dealt w.seat w.known)) other ≡ some w
-      → Kept owner (set (set views by (meeting v.all v.dealt w.seat w.known)) other nobody)
+      → KeptViews owner (set (set views by (meeting v.all v.dealt w.seat w.known)) other nobody)
   meets_as views by v other w is sits h at apart there =
       meets views by v.all v.dealt other w.seat w.known h (at ∙ ap some is) apart (there ∙ ap some sits)
 
   pub adds_as : (views : List (View E)) (by : ℕ) (v : View E) (told : List E) → v ≡ meeting v.all v.dealt v.seat v.known
-      → AllOf owner v.seat told → Kept owner views
+      → AllOf owner v.seat told → KeptViews owner views
       → get_elem? views by ≡ some v
-      → Kept owner (set views by (meeting (v.all ++ told) v.dealt v.seat (v.all ++ told))) × Knows owner v.seat v.known v.all
+      → KeptViews owner (set views by (meeting (v.all ++ told) v.dealt v.seat (v.all ++ told))) × Knows owner v.seat v.known v.all
   adds_as views by v told is its h at = adds views by v.all v.dealt v.seat v.known told its h (at ∙ ap some is)
 
-  pub parts_as : (views : List (View E)) (by : ℕ) (v : View E) → v ≡ meeting v.all v.dealt v.seat v.known → Kept owner views
+  pub parts_as : (views : List (View E)) (by : ℕ) (v : View E) → v ≡ meeting v.all v.dealt v.seat v.known → KeptViews owner views
       → get_elem? views by ≡ some v
-      → Kept owner (set views by (knower v.all v.dealt) ++ sitter v.seat v.known ∷ [])
+      → KeptViews owner (set views by (knower v.all v.dealt) ++ sitter v.seat v.known ∷ [])
   parts_as views by v is h at = parts views by v.all v.dealt v.seat v.known h (at ∙ ap some is)
 
   pub is_meeting : (v : View E) (all : List E) (dealt seat : ℕ) (known : List E) → v ≡ meeting all dealt seat known

@@ -16,8 +16,8 @@ module _ {E : Type 0} (owner : E → ℕ) where
       (v.keeps ≡ true → (by ≡ keeper) × (v.all ≡ log) × (v.dealt ≡ dealt))
       × (v.sits ≡ true → (by ≡ holder v.seat) × (v.seat < dealt) × Knows v.seat v.known log)
 
-  abbrev pub Kept : List (View E) → Type 0
-  Kept views =
+  abbrev pub KeptViews : List (View E) → Type 0
+  KeptViews views =
       (keeper : ℕ) × (holder : ℕ → ℕ) × (dealt : ℕ) × (log : List E)
       × ((by : ℕ) (v : View E) → get_elem? views by ≡ some v → Fits keeper holder dealt log by v)
 

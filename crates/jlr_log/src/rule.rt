@@ -53,9 +53,9 @@ pub struct OneLog;
 impl<E: Owned> TableRule<(), View<E>, ()> for OneLog {
     ghost use Rattle.std.specs.Prelude.{[]};
     ghost use Rattle.jlr_log.specs.Views.{knower};
-    ghost use Rattle.jlr_log.specs.Rule.{Kept};
+    ghost use Rattle.jlr_log.specs.Rule.{KeptViews};
 
-    ghost holds = { λ _ s. Kept E.owner s.views };
+    ghost holds = { λ _ s. KeptViews E.owner s.views };
 
     ghost first = { λ _. knower [] 0 };
 }

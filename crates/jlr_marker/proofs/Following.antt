@@ -18,7 +18,7 @@ use Rattle.jlr_marks.proofs.Shading.{shaded_same, shaded_then}
 use Rattle.jlr_barrier.specs.Parts.{next_at, part_at}
 use Rattle.jlr_barrier.specs.Scans.{Scanned, ScannedTo}
 use Rattle.jlr_barrier.proofs.Ending.{none_marked}
-use Rattle.jlr_marker.specs.Following.{Follows, IsFollowed, soft_at}
+use Rattle.jlr_marker.specs.Following.{FollowsSlot, IsFollowed, soft_at}
 
 module _ (keeps : ℕ → Bool) (heap : Heap) (B : List ℕ) where
   -- ---- Paths
@@ -173,7 +173,7 @@ same_marking m n eb eg ed ep =
     ap with_bits eb ∙ ap with_grey eg ∙ ap with_discovered ed ∙ ap with_part ep
 
 scanned_to : (more : Option ℕ) (heap : Heap) (slot : ℕ) (old new : Marking) → ScannedTo more heap slot old new
-    → Follows (λ x. x ∈ part_at heap (place old slot) slot) slot more old new
+    → FollowsSlot (λ x. x ∈ part_at heap (place old slot) slot) slot more old new
 scanned_to None heap slot old new scan =
     let f = scan.followed in
     let after : Marking = beside scan.on new.discovered None in
@@ -207,12 +207,12 @@ scanned_to (Some p) heap slot old new scan =
     }
 
 pub scanned_follows : (heap : Heap) (slot : ℕ) (old new : Marking) → Scanned heap slot old new
-    → Follows (λ x. x ∈ part_at heap (place old slot) slot) slot (next_at heap (place old slot) slot) old new
+    → FollowsSlot (λ x. x ∈ part_at heap (place old slot) slot) slot (next_at heap (place old slot) slot) old new
 scanned_follows heap slot old new scan = scanned_to (next_at heap (place old slot) slot) heap slot old new scan
 
 -- what is followed may be said in other words, and more may be shaded after it
 pub follows_same : (T U : ℕ → Type 0) (slot : ℕ) (more : Option ℕ) (old new : Marking) → ((x : ℕ) → T x → U x) → ((x : ℕ) → U x → T x)
-    → Follows T slot more old new → Follows U slot more old new
+    → FollowsSlot T slot more old new → FollowsSlot U slot more old new
 follows_same T U slot more old new to from f = record {
   rest = f.rest;
   off = f.off;
@@ -224,8 +224,9 @@ follows_same T U slot more old new to from f = record {
   shaded = shaded_same T U to from f.off new f.shaded;
 }
 
-pub follows_then : (T U : ℕ → Type 0) (slot : ℕ) (more : Option ℕ) (old mid new : Marking) → Follows T slot more old mid → Shaded U mid new
-    → Follows (λ x. T x ⊎ U x) slot more old new
+pub follows_then : (T U : ℕ → Type 0) (slot : ℕ) (more : Option ℕ) (old mid new : Marking) → FollowsSlot T slot more old mid
+    → Shaded U mid new
+    → FollowsSlot (λ x. T x ⊎ U x) slot more old new
 follows_then T U slot more old mid new f s = record {
   rest = f.rest;
   off = f.off;

@@ -11,7 +11,7 @@ use Rattle.jlr_laws.proofs.Sets.{in_front, in_rest, in_cons}
 use Rattle.jlr_marks.specs.declared.part.Part.{Part}
 use Rattle.jlr_marks.specs.Marking.{Marking, IsMarked, is_marked, marked, next_of, place, place_in, upcoming}
 use Rattle.jlr_barrier.specs.Parts.{IsBegun, next_at, ticks_at}
-use Rattle.jlr_marker.specs.Following.{Follows, IsTicked, grey_still, part_still}
+use Rattle.jlr_marker.specs.Following.{FollowsSlot, IsTicked, grey_still, part_still}
 use Rattle.jlr_marker.specs.Spending.{by_colour, elements_at, so_far, spent_at}
 use Rattle.jlr_marker.specs.Marks.{Blackening, Blackens, IsBlackened, IsPassed, IsPassedIn}
 use Rattle.jlr_marker.proofs.Elements.{array_from, array_gives, array_no_soft, last_part, next_below, next_is, none_next, other_next}
@@ -73,7 +73,8 @@ module _ (keeps : ℕ → Bool) (heap : Heap) where
 
 module _ (keeps : ℕ → Bool) (heap : Heap) (ticks : ℕ) (old cur new : Marking) (slot : ℕ) (more : Option ℕ)
     (i : Blackening keeps heap ticks old cur) (on : GoesOn old cur)
-    (f : Follows (λ y. IsTicked keeps heap (place cur slot) slot y) slot more cur new) (is_more : next_at heap (place cur slot) slot ≡ more)
+    (f : FollowsSlot (λ y. IsTicked keeps heap (place cur slot) slot y) slot more cur new) (is_more : next_at heap (place cur slot) slot
+    ≡ more)
     (up : upcoming cur ≡ Some slot) (top : IsMarked cur slot) (inside : slot < length heap)
     (begun : IsBegun heap (place cur slot) slot) where
   abbrev from : ℕ

@@ -36,7 +36,7 @@ part_still None slot = None
 
 -- The slot was grey, and the members of T were shaded. Where there is more of it to follow it is grey still, and comes
 -- next; else it is grey no more
-pub record Follows (T : ℕ → Type 0) (slot : ℕ) (more : Option ℕ) (old new : Marking) : Type 0 where
+pub record FollowsSlot (T : ℕ → Type 0) (slot : ℕ) (more : Option ℕ) (old new : Marking) : Type 0 where
   -- the other grey slots, and the marks before T was shaded
   pub rest : List ℕ
   pub off : Marking
@@ -50,7 +50,7 @@ pub record Follows (T : ℕ → Type 0) (slot : ℕ) (more : Option ℕ) (old ne
 -- one tick at a slot
 abbrev pub Ticks : (ℕ → Bool) → Heap → ℕ → Marking → Marking → Type 0
 Ticks kept heap slot old new =
-    Follows (λ y. IsTicked kept heap (place old slot) slot y) slot (next_at heap (place old slot) slot) old new
+    FollowsSlot (λ y. IsTicked kept heap (place old slot) slot y) slot (next_at heap (place old slot) slot) old new
 
 -- s is in B, or the edges that a marker follows lead to it from there
 abbrev pub IsFollowed : (ℕ → Bool) → Heap → List ℕ → ℕ → Type 0

@@ -8,7 +8,7 @@ use Rattle.jlr_machine.specs.Run.{IsLegal, with_collection}
 use Rattle.jlr_machine.specs.WellFormed.{IsWellFormed}
 use Rattle.jlr_laws.specs.Deciding.{is_carried_out, is_refused, is_heap_full, is_out_of_memory, is_legal, may_collect, are_fresh, is_answer}
 use Rattle.jlr_laws.proofs.Legality.{legality_is_decided}
-use Rattle.jlr_plain.specs.Deciding.{fits_after, declines, IsAllowed}
+use Rattle.jlr_plain.specs.Deciding.{fits_after, declines, HasAllowedCollection}
 
 or_grouped : (a b c d : Bool) → (a || (b || c || d)) ≡ (a || b || c || d)
 or_grouped true b c d = refl
@@ -48,12 +48,14 @@ pub not_allowed : (m : Machine) (e : Entry) → IsWellFormed m → (is_none (ref
 not_allowed m e w a d =
     neither_is_legal m e w (sym (carried_parts m e) ∙ ap (λ b. b && fits_after e (with_collection m e.choice.collected)) a) d
 
-pub not_fitting : (m : Machine) (e : Entry) → IsWellFormed m → IsAllowed m e → fits_after e (with_collection m e.choice.collected) ≡ false
+pub not_fitting : (m : Machine) (e : Entry) → IsWellFormed m → HasAllowedCollection m e
+    → fits_after e (with_collection m e.choice.collected) ≡ false
     → ¬ (IsLegal m e)
 not_fitting m e w a f = neither_is_legal m e w (sym (carried_parts m e)
     ∙ ap (λ b. b && fits_after e (with_collection m e.choice.collected)) a.allowed ∙ f) a.carried_out
 
-pub fitting : (m : Machine) (e : Entry) → IsWellFormed m → IsAllowed m e → fits_after e (with_collection m e.choice.collected) ≡ true
+pub fitting : (m : Machine) (e : Entry) → IsWellFormed m → HasAllowedCollection m e → fits_after e (with_collection m e.choice.collected)
+    ≡ true
     → IsLegal m e
 fitting m e w a f =
     let carried = sym (carried_parts m e) ∙ ap (λ b. b && fits_after e (with_collection m e.choice.collected)) a.allowed ∙ f in

@@ -27,7 +27,7 @@ use Rattle.jlr_histories.proofs.Seen.{now_seen_gives, reached_is_seen, seen_is_s
 use Rattle.jlr_histories.proofs.Growing.{goes_on_in, GoesOnIn}
 use Rattle.jlr_histories.proofs.Marking.{entry_adds, reached_more, reached_base}
 use Rattle.jlr_plain_asks.specs.Counts.{refuses}
-use Rattle.jlr_plain.specs.Following.{IsFollowed, IsFit, IsNext, adds_no_root, keeps_seen}
+use Rattle.jlr_plain.specs.Following.{SeenIsFollowed, IsWellFollowed, IsNext, adds_no_root, keeps_seen}
 use Rattle.jlr_plain.proofs.Small.{IsSmall, small, small_same}
 
 filter_agree : (p q : ℕ → Bool) (xs : List ℕ) → ((s : ℕ) → s ∈ xs → p s ≡ q s) → filter p xs ≡ filter q xs
@@ -51,7 +51,7 @@ now_seen_open n e = chosen n.cycle_open (seen_with n.seen (reach_set UpToSoft n.
 
 -- ---- Behind an ask that adds no root
 
-module _ (m d : Machine) (f : IsFollowed m) (on : m.cycle_open ≡ true) (within : IsWithinHeap m.objects (roots m))
+module _ (m d : Machine) (f : SeenIsFollowed m) (on : m.cycle_open ≡ true) (within : IsWithinHeap m.objects (roots m))
     (after : IsWithinHeap d.objects (roots d)) (is : IsSmall m d) where
   reached_seen : (s : ℕ) → IsReached UpToSoft m.objects (roots m) s → s ∈ m.seen
   reached_seen s r = subst (λ l. s ∈ l) (sym f.up_to_date) (reached_is_seen m within s on r)
@@ -118,7 +118,7 @@ small_done m e k =
     subst (λ (n : Machine). IsSmall m (carried n e.ask e.answer e.choice.fresh)) (sym (not_collected e.choice.collected m none))
     (small_carried m e.ask e.answer e.choice.fresh both.1)
 
-pub seen_is_kept : (m : Machine) (e : Entry) → IsWellFormed m → IsFollowed m → IsLegal m e → keeps_seen m e ≡ true
+pub seen_is_kept : (m : Machine) (e : Entry) → IsWellFormed m → SeenIsFollowed m → IsLegal m e → keeps_seen m e ≡ true
     → now_seen (done m e) ≡ (done m e).seen
 seen_is_kept m e w f legal k =
     let both = and_parts (m.cycle_open && is_none e.choice.collected) (refuses e.answer || adds_no_root m e.ask) k in
@@ -127,7 +127,7 @@ seen_is_kept m e w f legal k =
 
 -- ---- What was seen stays closed
 
-module _ (m : Machine) (e : Entry) (w : IsWellFormed m) (f : IsFollowed m) (legal : IsLegal m e) where
+module _ (m : Machine) (e : Entry) (w : IsWellFormed m) (f : SeenIsFollowed m) (legal : IsLegal m e) where
   within_then : IsWithinHeap (done m e).objects (roots (done m e))
   within_then = well_formed_within (apply m e) (legal_kept m e w legal)
 
@@ -159,19 +159,23 @@ module _ (m : Machine) (e : Entry) (w : IsWellFormed m) (f : IsFollowed m) (lega
         | inr r ↦ reached_is_seen (done m e) within_then y given.0 (reached_more (done m e) (roots (done m e)) x y r edge)
       ]
 
-  pub stays_followed : IsFollowed (apply m e)
+  pub stays_followed : SeenIsFollowed (apply m e)
   stays_followed = record { up_to_date = seen_stays_up_to_date.1 m e; closed = stays_closed }
 
-pub next_is_fit : (m n : Machine) (e : Entry) → IsFit m → IsLegal m e → n ≡ apply m e → IsNext m e n
+pub next_is_fit : (m n : Machine) (e : Entry) → IsWellFollowed m → IsLegal m e → n ≡ apply m e → IsNext m e n
 next_is_fit m n e f legal is =
     record {
       legal = legal;
       applied = is;
       fit =
-          subst IsFit (sym is) (record { formed = legal_kept m e f.formed legal; followed = stays_followed m e f.formed f.followed legal });
+          subst IsWellFollowed (sym is) (record {
+            formed = legal_kept m e f.formed legal;
+            followed = stays_followed m e f.formed f.followed
+                legal;
+          });
     }
 
-pub image_is_fit : (m : Machine) → IsImage m → IsFit m
+pub image_is_fit : (m : Machine) → IsImage m → IsWellFollowed m
 image_is_fit m i =
     let none : m.seen ≡ [] = i.well_formed.seen_in_cycle i.no_cycle in
     record {

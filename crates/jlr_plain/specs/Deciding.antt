@@ -16,7 +16,7 @@ abbrev pub declines : Machine → Entry → Bool
 declines m e = is_refused m e || is_heap_full m e || is_out_of_memory m e
 
 -- it is legal if just the rest fits in the machine that its collection leaves
-pub record IsAllowed (m : Machine) (e : Entry) : Type 0 where
+pub record HasAllowedCollection (m : Machine) (e : Entry) : Type 0 where
   pub allowed : (is_none (refusal m e.ask) && may_collect m e.ask e.choice.collected) ≡ true
   pub carried_out : declines m e ≡ false
 

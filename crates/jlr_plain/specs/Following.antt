@@ -14,20 +14,20 @@ use Rattle.jlr_machine.specs.WellFormed.{IsWellFormed}
 use Rattle.jlr_plain_asks.specs.Counts.{refuses}
 
 -- what was seen is up to date, and strong and soft edges lead from it to nothing else
-pub record IsFollowed (m : Machine) : Type 0 where
+pub record SeenIsFollowed (m : Machine) : Type 0 where
   pub up_to_date : m.seen ≡ now_seen m
   pub closed : (x y : ℕ) → x ∈ m.seen → y ∈ edges_from UpToSoft m.objects x → y ∈ m.seen
 
 -- well formed, with what was seen followed
-pub record IsFit (m : Machine) : Type 0 where
+pub record IsWellFollowed (m : Machine) : Type 0 where
   pub formed : IsWellFormed m
-  pub followed : IsFollowed m
+  pub followed : SeenIsFollowed m
 
 -- the machine behind a legal entry
 pub record IsNext (m : Machine) (e : Entry) (n : Machine) : Type 0 where
   pub legal : IsLegal m e
   pub applied : n ≡ apply m e
-  pub fit : IsFit n
+  pub fit : IsWellFollowed n
 
 -- an object that a handle is given for was seen
 abbrev pub is_seen_given : List ℕ → Option ℕ → Bool

@@ -1,8 +1,8 @@
 //! An entry that changes the machine in place.
 ghost use Rattle.std.specs.Prelude.{◌≡◌, true, IfOk, MatchOption};
 ghost use Rattle.jlr_machine.specs.Run.{IsLegal, done, now_seen};
-ghost use Rattle.jlr_plain.specs.Deciding.{IsAllowed};
-ghost use Rattle.jlr_plain.specs.Following.{IsFit, IsNext};
+ghost use Rattle.jlr_plain.specs.Deciding.{HasAllowedCollection};
+ghost use Rattle.jlr_plain.specs.Following.{IsWellFollowed, IsNext};
 
 use crate::apply::{applied, complete};
 use crate::entry::{fits_in, is_declined, may_carry_out};
@@ -19,8 +19,8 @@ fn carry_on(
     entry: &Entry,
     kept: bool,
 ) -> Result<Option<Machine>, AllocError>
-    requires fit { IsFit machine }
-    requires allowed { IsAllowed machine entry.now }
+    requires fit { IsWellFollowed machine }
+    requires allowed { HasAllowedCollection machine entry.now }
     requires kept { kept ≡ true → IsLegal machine entry.now
         → now_seen (done machine entry.now) ≡ (done machine entry.now).seen }
     ensures { IfOk result (λ o. MatchOption o (¬ (IsLegal machine entry.now)) (λ n. IsNext machine entry.now n)) }
@@ -44,7 +44,7 @@ pub fn advance_plain(
     machine: Machine,
     entry: &Entry,
 ) -> Result<Option<Machine>, AllocError>
-    requires { IsFit machine }
+    requires { IsWellFollowed machine }
     ensures { IfOk result (λ o. MatchOption o (¬ (IsLegal machine entry.now)) (λ n. IsNext machine entry.now n)) }
 {
     let kept = keeps_seen_plain(&machine, entry);

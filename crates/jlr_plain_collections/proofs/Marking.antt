@@ -10,7 +10,7 @@ use Rattle.jlr_machine.specs.Edges.{Chain, edges, edges_from}
 use Rattle.jlr_machine.specs.Reachable.{IsReached}
 use Rattle.jlr_machine.specs.ReachSet.{reach_set}
 use Rattle.jlr_laws.specs.Laws.{IsWithinHeap, only}
-use Rattle.jlr_plain_collections.specs.Marks.{is_marked, IsMarked, marked, Greyed}
+use Rattle.jlr_plain_collections.specs.Marks.{is_marked, HasMark, marked, Greyed}
 use Rattle.jlr_laws.proofs.Sets.{nothing, in_front, in_rest, in_cons}
 use Rattle.jlr_plain_collections.proofs.Slow.{same_bools}
 use Rattle.jlr_laws.proofs.Clearing.{edge_gives, edge_from, in_append, in_left, in_right}
@@ -30,7 +30,7 @@ unmarked_at zero s = refl
 unmarked_at (suc n) zero = refl
 unmarked_at (suc n) (suc s) = unmarked_at n s
 
-pub marked_below : (marks : List Bool) (s : ℕ) → IsMarked marks s → s < length marks
+pub marked_below : (marks : List Bool) (s : ℕ) → HasMark marks s → s < length marks
 marked_below [] s m = absurd (both_ways false refl m)
 marked_below (b ∷ marks) zero m = omega arith
 marked_below (b ∷ marks) (suc s) m = let h = marked_below marks s m in omega (arith, h)
@@ -164,10 +164,10 @@ spreads_gone chain heap kept x marks todo m = greyed_none (λ s. s ∈ edges_fro
 -- at
 pub record IsMarking (chain : Chain) (heap : Heap) (B : List ℕ) (marks : List Bool) (todo : List ℕ) : Type 0 where
   pub long : length marks ≡ length heap
-  pub sound : (s : ℕ) → IsMarked marks s → IsReached chain heap B s
-  pub base : (s : ℕ) → s ∈ B → IsMarked marks s
-  pub waiting : (s : ℕ) → s ∈ todo → IsMarked marks s
-  pub closed : (x s : ℕ) → IsMarked marks x → s ∈ edges_from chain heap x → (x ∈ todo) ⊎ IsMarked marks s
+  pub sound : (s : ℕ) → HasMark marks s → IsReached chain heap B s
+  pub base : (s : ℕ) → s ∈ B → HasMark marks s
+  pub waiting : (s : ℕ) → s ∈ todo → HasMark marks s
+  pub closed : (x s : ℕ) → HasMark marks x → s ∈ edges_from chain heap x → (x ∈ todo) ⊎ HasMark marks s
 
 pub marking_begins : (chain : Chain) (heap : Heap) (B : List ℕ) (n : ℕ) (marks : List Bool) (todo : List ℕ) → n ≡ length heap
     → Greyed (λ s. s ∈ B) (replicate n false) [] marks todo → IsMarking chain heap B marks todo
@@ -189,7 +189,7 @@ pub marking_goes_on : (chain : Chain) (heap : Heap) (B : List ℕ) (x : ℕ) (ol
     (after : List ℕ) → todo ≡ rest ++ x ∷ [] → IsMarking chain heap B old todo
     → Greyed (λ s. s ∈ edges_from chain heap x) old rest new after → IsMarking chain heap B new after
 marking_goes_on chain heap B x old todo rest new after t w g =
-    let here : IsMarked old x = w.waiting x (subst (λ l. x ∈ l) (sym t) (in_right x rest (x ∷ []) (in_front x x [] refl))) in
+    let here : HasMark old x = w.waiting x (subst (λ l. x ∈ l) (sym t) (in_right x rest (x ∷ []) (in_front x x [] refl))) in
     record {
       long = g.long ∙ w.long;
       sound = λ s m. elim (g.only s m) [
@@ -226,8 +226,8 @@ pub marking_ends : (chain : Chain) (heap : Heap) (kept B : List ℕ) (marks : Li
     → IsMarking chain (only kept heap) B marks todo → (s : ℕ) → is_marked marks s ≡ (reach_set chain (only kept heap) B ∋ s)
 marking_ends chain heap kept B marks todo none w k s =
     let d = Decides-inside chain heap kept B w s in
-    let closed : (x y : ℕ) → IsMarked marks x → y ∈ edges_from chain (only kept heap) x → IsMarked marks y =
+    let closed : (x y : ℕ) → HasMark marks x → y ∈ edges_from chain (only kept heap) x → HasMark marks y =
     λ x y m e. elim (k.closed x y m e) [ inl t ↦ nothing x (subst (λ l. x ∈ l) none t) | inr b ↦ b ] in
     same_bools (is_marked marks s) (reach_set chain (only kept heap) B ∋ s) (λ m. d.1 (k.sound s m))
-    (λ m. carried chain (only kept heap) B (IsMarked marks) (λ x y h e. closed x y h (edge_from chain (only kept heap) x y e)) k.base s
+    (λ m. carried chain (only kept heap) B (HasMark marks) (λ x y h e. closed x y h (edge_from chain (only kept heap) x y e)) k.base s
     (d.0 m))

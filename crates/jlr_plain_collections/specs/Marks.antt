@@ -7,8 +7,8 @@ use Rattle.jlr_machine.specs.Edges.Chain.{Strong, UpToSoft}
 abbrev pub is_marked : List Bool → ℕ → Bool
 is_marked marks s = slice_index_or marks s false
 
-abbrev pub IsMarked : List Bool → ℕ → Type 0
-IsMarked marks s = is_marked marks s ≡ true
+abbrev pub HasMark : List Bool → ℕ → Type 0
+HasMark marks s = is_marked marks s ≡ true
 
 abbrev pub marked : List Bool → ℕ
 marked marks = count_by (λ b. b) marks
@@ -21,12 +21,12 @@ IsTable slots marks = (s : ℕ) → s < length marks → is_marked marks s ≡ (
 -- looked at
 pub record Greyed (T : ℕ → Type 0) (old : List Bool) (before : List ℕ) (new : List Bool) (after : List ℕ) : Type 0 where
   pub long : length new ≡ length old
-  pub only : (s : ℕ) → IsMarked new s → IsMarked old s ⊎ T s
-  pub stay : (s : ℕ) → IsMarked old s → IsMarked new s
-  pub added : (s : ℕ) → T s → IsMarked new s
+  pub only : (s : ℕ) → HasMark new s → HasMark old s ⊎ T s
+  pub stay : (s : ℕ) → HasMark old s → HasMark new s
+  pub added : (s : ℕ) → T s → HasMark new s
   pub waiting : (s : ℕ) → s ∈ before → s ∈ after
-  pub listed : (s : ℕ) → s ∈ after → (s ∈ before) ⊎ IsMarked new s
-  pub fresh : (s : ℕ) → IsMarked new s → IsMarked old s ⊎ (s ∈ after)
+  pub listed : (s : ℕ) → s ∈ after → (s ∈ before) ⊎ HasMark new s
+  pub fresh : (s : ℕ) → HasMark new s → HasMark old s ⊎ (s ∈ after)
   pub count : marked new + length before ≡ marked old + length after
 
 -- strong and soft edges, or strong ones alone

@@ -1,7 +1,7 @@
 //! The machine that a collection leaves.
 ghost use Rattle.std.specs.Prelude.{◌≡◌, ◌++◌, cond, false, option_map, None, IfOk, []};
 ghost use Rattle.jlr_machine.specs.Objects.{◌∋◌};
-ghost use Rattle.jlr_machine.specs.Collection.{is_kept_referent, left_of, places_left, after_collection};
+ghost use Rattle.jlr_machine.specs.Collection.{referent_if_kept, left_of, places_left, after_collection};
 ghost use Rattle.jlr_machine.specs.Run.{with_collection};
 ghost use Rattle.jlr_machine.specs.declared.object.Object.TheVariants.{Reference as ReferenceObject};
 ghost use Rattle.jlr_machine.specs.declared.object.Object.TheVariants.{Cleanable as CleanableObject};
@@ -21,7 +21,7 @@ use std::mem::replace;
 
 /// A referent that is kept.
 fn kept_referent(kept: &SlotList, referent: Option<Slot>) -> Option<Slot>
-    ensures { result ≡ is_kept_referent kept.now referent }
+    ensures { result ≡ referent_if_kept kept.now referent }
 {
     let Some(slot) = referent else {
         return None;

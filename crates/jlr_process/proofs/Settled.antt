@@ -19,7 +19,7 @@ use Rattle.jlr_barrier.specs.Graphs.{Graph, with_objects, with_pending}
 use Rattle.jlr_marks.specs.Marking.{Marking, is_marked}
 use Rattle.jlr_machine.specs.Choices.{Choosing}
 use Rattle.jlr_laws.proofs.ObjectsKept.{count_pointwise}
-use Rattle.jlr_process.specs.Settling.{Clears, cleared, loses, marked_referent, only_if, settled_object, with_settled}
+use Rattle.jlr_process.specs.Settling.{SettlesSlots, cleared, loses, marked_referent, only_if, settled_object, with_settled}
 
 set_twice : {A : Type 0} (table : Table A) (n : ℕ) (v w : Option A) → slice_set (slice_set table n v) n w ≡ slice_set table n w
 set_twice [] n v w = refl
@@ -121,7 +121,7 @@ either_some false o p e = refl
 
 -- what is cleared stays an object
 pub as_many : (m : Marking) (slots : List ℕ) (old : Graph) (before : Choosing) (lost : List ℕ) (new : Graph) (after : Choosing)
-    → Clears m slots old before lost new after → occupied new.objects ≡ occupied old.objects
+    → SettlesSlots m slots old before lost new after → occupied new.objects ≡ occupied old.objects
 as_many m slots old before lost new after clears =
     count_pointwise is_some new.objects old.objects clears.long
     (λ s. ap is_some (clears.objects s) ∙ either_some (slots ∋ s) (cleared m s (at old.objects s)) (at old.objects s)

@@ -20,7 +20,8 @@ use Rattle.jlr_barrier.specs.Graphs.{Graph}
 use Rattle.jlr_barrier.specs.Snapshots.{RefersTo}
 use Rattle.jlr_marks.specs.Marking.{Marking, IsMarked, is_marked}
 use Rattle.jlr_marks.proofs.Shading.{marked_within}
-use Rattle.jlr_process.specs.Settling.{Clears, cleared, cleared_graph, is_losing, kept_at, loses, marked_referent, newly_pending, only_if}
+use Rattle.jlr_process.specs.Settling.{SettlesSlots, cleared, cleared_graph, is_losing, kept_at, loses, marked_referent, newly_pending}
+use Rattle.jlr_process.specs.Settling.{only_if}
 use Rattle.jlr_process.specs.Settling.{settled, settled_object}
 use Rattle.jlr_process.proofs.Whole.{losing_is_marked, losing_loses, same_bool}
 
@@ -175,7 +176,7 @@ only_in : (b : Bool) (d : ℕ) → b ≡ true → d ∈ only_if b d
 only_in b d e = subst (λ c. d ∈ only_if c d) (sym e) (in_front d d [] refl)
 
 module _ (m : Marking) (slots : List ℕ) (old : Graph) (before : Choosing) (lost : List ℕ) (g : Graph) (c : Choosing)
-    (w : Clears m slots old before lost g c) (d : ℕ) where
+    (w : SettlesSlots m slots old before lost g c) (d : ℕ) where
   abbrev was : Option Object
   was = at old.objects d
 
@@ -213,7 +214,7 @@ module _ (m : Marking) (slots : List ℕ) (old : Graph) (before : Choosing) (los
 
   pub clears_more : (n : Graph) (k : Choosing) → n ≡ cleared_graph m g d
       → k ≡ collecting c (kept_by c) (pended_by c ++ newly_pending m g.objects d) → (more : List ℕ)
-      × Clears m (d ∷ slots) old before more n k
+      × SettlesSlots m (d ∷ slots) old before more n k
   clears_more n k en ek =
       let np : List ℕ = newly_pending m g.objects d in
       let losing : Bool = is_losing m g.objects d in

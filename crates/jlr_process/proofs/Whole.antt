@@ -6,7 +6,7 @@ use Rattle.std.proofs.lemmas.List.Sums.{length-filter}
 use Rattle.jlr_machine.specs.declared.object.Object.{Object}
 use Rattle.jlr_machine.specs.declared.object.Object.TheVariants.{Plain, Reference, Queue, Cleaner, Cleanable, Guard}
 use Rattle.jlr_machine.specs.Objects.{Table, Heap, at, ◌∈◌, ◌∋◌, any_referent, occupied, some_and}
-use Rattle.jlr_machine.specs.Collection.{is_kept_referent, is_ready, left_of, made_pending, places_left}
+use Rattle.jlr_machine.specs.Collection.{referent_if_kept, is_ready, left_of, made_pending, places_left}
 use Rattle.jlr_machine.specs.ReachSet.{up_to}
 use Rattle.jlr_laws.specs.Laws.{LosesReferent}
 use Rattle.jlr_laws.proofs.Sets.{in_filter, filter_in, up_to_in}
@@ -49,7 +49,7 @@ losing_loses m heap x h = elim (is_marked m x) as (λ b. (b && some_and (loses m
 -- ---- An object
 
 same_referent : (m : Marking) (kept : List ℕ) → ((x : ℕ) → (kept ∋ x) ≡ is_marked m x) → (o : Option ℕ)
-    → marked_referent m o ≡ is_kept_referent kept o
+    → marked_referent m o ≡ referent_if_kept kept o
 same_referent m kept h None = refl
 same_referent m kept h (Some x) = ap (λ b. cond b (Some x) None) (sym (h x))
 

@@ -65,7 +65,7 @@ cleared_graph m g s = record g {
 
 -- What is at the marked ones of these slots is settled, and all else is as it was. The lost ones, each of them once,
 -- become pending, and the choice says so
-pub record Clears (m : Marking) (slots : List ℕ) (old : Graph) (before : Choosing) (lost : List ℕ) (new : Graph)
+pub record SettlesSlots (m : Marking) (slots : List ℕ) (old : Graph) (before : Choosing) (lost : List ℕ) (new : Graph)
     (after : Choosing) : Type 0 where
   pub long : length new.objects ≡ length old.objects
   pub objects : (s : ℕ) → at new.objects s ≡ cond (slots ∋ s) (cleared m s (at old.objects s)) (at old.objects s)
@@ -83,11 +83,12 @@ abbrev pub kept_at : Marking → ℕ → Option Object → Option Object
 kept_at m s o = cond (is_marked m s) o None
 
 -- What is marked is kept, and all else is gone. The choice says so, and what became pending before
-pub record Keeps (m : Marking) (old : Graph) (before : Choosing) (new : Graph) (after : Choosing) : Type 0 where
-  pub long : length new.objects ≡ length old.objects
-  pub objects : (s : ℕ) → s < length old.objects → at new.objects s ≡ kept_at m s (at old.objects s)
-  pub pending : new.pending ≡ old.pending
-  pub line : new.line ≡ old.line
-  pub mutators : new.mutators ≡ old.mutators
-  pub names : new.names ≡ old.names
-  pub chosen : after ≡ collecting before (marked_below m (length old.objects)) (pended_by before)
+pub record KeepsWhatIsMarked (m : Marking) (old : Graph) (before : Choosing) (new : Graph) (after : Choosing) : Type 0
+  where
+    pub long : length new.objects ≡ length old.objects
+    pub objects : (s : ℕ) → s < length old.objects → at new.objects s ≡ kept_at m s (at old.objects s)
+    pub pending : new.pending ≡ old.pending
+    pub line : new.line ≡ old.line
+    pub mutators : new.mutators ≡ old.mutators
+    pub names : new.names ≡ old.names
+    pub chosen : after ≡ collecting before (marked_below m (length old.objects)) (pended_by before)

@@ -6,7 +6,7 @@ ghost use Rattle.jlr_machine.specs.Choices.{collecting, nothing_chosen, pended_b
 ghost use Rattle.jlr_barrier.specs.Graphs.{counted, in_machine, in_use};
 ghost use Rattle.jlr_barrier.specs.Snapshots.{RefersTo};
 ghost use Rattle.jlr_process.specs.Flipping.{Flips, IsRooted};
-ghost use Rattle.jlr_process.specs.Settling.{Clears, Keeps, is_losing};
+ghost use Rattle.jlr_process.specs.Settling.{SettlesSlots, KeepsWhatIsMarked, is_losing};
 
 use crate::settle::settle;
 use jlr_barrier::Heap;
@@ -51,7 +51,8 @@ fn settle_discovered(heap: &mut Heap, choice: &mut Choice)
     requires bits { length heap.old.marking.bits ≡ length heap.old.graph.objects }
     requires room { length heap.old.graph.objects ≤ choice.old.cells }
     requires begun { choice.old ≡ collecting choice.old [] [] }
-    ensures clears { (lost : List ℕ) × Clears heap.old.marking heap.old.marking.discovered heap.old.graph choice.old
+    ensures clears { (lost : List ℕ) × SettlesSlots heap.old.marking heap.old.marking.discovered heap.old.graph
+        choice.old
         lost heap.new.graph choice.new }
     ensures clock { heap.new.clock ≡ heap.old.clock }
     ensures marking { heap.new.marking ≡ heap.old.marking }
@@ -73,7 +74,7 @@ fn keep_marked(heap: &mut Heap, choice: &mut Choice)
     requires no_grey { heap.old.marking.grey ≡ [] }
     requires room { length heap.old.graph.objects ≤ choice.old.cells }
     requires begun { choice.old ≡ collecting choice.old [] (pended_by choice.old) }
-    ensures keeps { Keeps heap.old.marking heap.old.graph choice.old heap.new.graph choice.new }
+    ensures keeps { KeepsWhatIsMarked heap.old.marking heap.old.graph choice.old heap.new.graph choice.new }
     ensures clock { heap.new.clock ≡ heap.old.clock }
     ensures marking { heap.new.marking ≡ heap.old.marking }
     ensures free { in_use heap.new ≡ in_use heap.old }

@@ -28,7 +28,7 @@ use Rattle.jlr_session.specs.Asks.{prepared_in, prepared_by, out_with, out_by, j
 use Rattle.jlr_prog.specs.Histories.{History}
 use Rattle.jlr_prog.specs.Rules.{BookSteps}
 use Rattle.jlr_prog.specs.Solos.{at_book, cleaner_seat, handler_seat}
-use Rattle.jlr_prog.specs.Wholes.{Whole, WholeSteps, at_whole}
+use Rattle.jlr_prog.specs.Wholes.{WholeRun, WholeSteps, at_whole}
 use Rattle.jlr_prog.proofs.Staying.{Stays, entry_stays, hand_over_stays, take_up_stays, finish_stays}
 use Rattle.jlr_prog.proofs.Calls.{IsHere, WasRefused, BeginsToOpen, BeginsToCall, BeginsToWork, prepare_begins, check_out_begins}
 use Rattle.jlr_prog.proofs.Calls.{opened_ends, check_in_ends, finish_ends}
@@ -51,7 +51,7 @@ module _ {R : Type 0} (m : Machine) (front : List Entry) where
   -- ---- Asks that leave mutator 0 alone
 
   abbrev pub IsAskOf : ℕ → (Machine → Type 0) → (Machine → Type 0) → Event R → Type 0
-  IsAskOf seat P Q e = (h k : History R) (x : Whole R) (reply : Reply R) → BookSteps seat h e reply k → IsWhole m front P h x
+  IsAskOf seat P Q e = (h k : History R) (x : WholeRun R) (reply : Reply R) → BookSteps seat h e reply k → IsWhole m front P h x
       → Follows m front Q seat e reply k x
 
   abbrev pub IsAskFrom : (Machine → Type 0) → (Machine → Type 0) → Event R → Type 0
@@ -59,7 +59,7 @@ module _ {R : Type 0} (m : Machine) (front : List Entry) where
 
   -- an ask that is no end, of a mutator that has no call in flight
   from_here : (Q : Machine → Type 0) (e : Event R) (asked : Ask) → ask_of e ≡ Some asked → is_end asked ≡ false
-      → (seat : ℕ) (h k : History R) (x : Whole R) (reply : Reply R) → BookSteps seat h e reply k
+      → (seat : ℕ) (h k : History R) (x : WholeRun R) (reply : Reply R) → BookSteps seat h e reply k
       → LeadsOn IsHere Q e asked reply → ((n : Machine) → IsHere n → (by : Refusal) (resource : Option R)
       → reply ≡ Answered (Refused by) resource → Q n) → IsWhole m front IsHere h x → Follows m front Q seat e reply k x
   from_here Q e asked is end seat h k x reply steps leads nowhere w =
@@ -80,11 +80,11 @@ module _ {R : Type 0} (m : Machine) (front : List Entry) where
       end_recorded m front IsHere IsHere e asked is end seat h k x reply steps (stays_leads e asked stays reply) w
 
   -- of the handler and the cleaner, whose seats the book tells
-  of_handler : (h : History R) (x : Whole R) (e : Event R) (reply : Reply R) (y : Whole R) → x.book ≡ h
+  of_handler : (h : History R) (x : WholeRun R) (e : Event R) (reply : Reply R) (y : WholeRun R) → x.book ≡ h
       → WholeSteps (handler_seat h) x e reply y → WholeSteps (handler_seat x.book) x e reply y
   of_handler h x e reply y is steps = subst (λ b. WholeSteps (handler_seat b) x e reply y) (sym is) steps
 
-  of_cleaner : (h : History R) (x : Whole R) (e : Event R) (reply : Reply R) (y : Whole R) → x.book ≡ h
+  of_cleaner : (h : History R) (x : WholeRun R) (e : Event R) (reply : Reply R) (y : WholeRun R) → x.book ≡ h
       → WholeSteps (cleaner_seat h) x e reply y → WholeSteps (cleaner_seat x.book) x e reply y
   of_cleaner h x e reply y is steps = subst (λ b. WholeSteps (cleaner_seat b) x e reply y) (sym is) steps
 
@@ -109,7 +109,7 @@ module _ {R : Type 0} (m : Machine) (front : List Entry) where
 
   pub record IsCallAlong {Y : Type 0} (first : Event R) (leads : Reply R → Result Y Answer) (comes_to : Y → Event R → Type 0)
       (T : Y → Machine → Type 0) : Type 0 where
-    pub begins : (h k : History R) (x : Whole R) (reply : Reply R) → BookSteps 0 h first reply k → IsWhole m front IsHere h x
+    pub begins : (h k : History R) (x : WholeRun R) (reply : Reply R) → BookSteps 0 h first reply k → IsWhole m front IsHere h x
         → Follows m front (λ n. MatchResult (leads reply) (λ w. T w n) (λ _. IsHere n)) 0 first reply k x
     pub ends : (w : Y) (second : Event R) → comes_to w second → IsAskFrom (T w) IsHere second
 

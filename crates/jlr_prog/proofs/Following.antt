@@ -31,7 +31,7 @@ use Rattle.jlr_session.proofs.Following.{IsFollowed, ended_along}
 use Rattle.jlr_prog.specs.Histories.{History}
 use Rattle.jlr_prog.specs.Rules.{BookSteps}
 use Rattle.jlr_prog.specs.Solos.{at_book, by_book}
-use Rattle.jlr_prog.specs.Wholes.{Whole, WholeSteps, at_whole, by_whole}
+use Rattle.jlr_prog.specs.Wholes.{WholeRun, WholeSteps, at_whole, by_whole}
 use Rattle.jlr_prog.proofs.Staying.{Stays, changed, given_stays, made_stays, put_stays, asked_enqueue_stays, asked_poll_stays, bound_stays}
 use Rattle.jlr_prog.proofs.Calls.{IsHere, clean_begins, close_begins}
 use Rattle.jlr_prog.proofs.Recorded.{IsWhole}
@@ -91,9 +91,9 @@ module _ {R : Type 0} (m : Machine) (front : List Entry) where
   quiet_along e None is stays = absurd stays
 
   module _ {D : Type 0} (device : Opening D R) (resource : Handling R) where
-    once_along : (first : Option Ask) → AsksQuietly first → (h k : History R) (said : Answer) (x : Whole R)
+    once_along : (first : Option Ask) → AsksQuietly first → (h k : History R) (said : Answer) (x : WholeRun R)
         → AsksOnce (by_book resource) first h said k → IsWhole m front IsHere h x
-        → (y : Whole R) × AsksOnce (by_whole resource) first x said y × IsWhole m front IsHere k y
+        → (y : WholeRun R) × AsksOnce (by_whole resource) first x said y × IsWhole m front IsHere k y
     once_along None quiet h k said x a s = (x, (a.0, refl), subst (λ l. IsWhole m front IsHere l x) (sym a.1) s)
     once_along (Some first) quiet h k said x a s =
         let d = quiet_along (event.Ask first) (Some first) refl (quiet first refl) h k x a.0 a.1 s in (d.0, (a.0, d.1, a.2), d.2)
@@ -102,11 +102,11 @@ module _ {R : Type 0} (m : Machine) (front : List Entry) where
 
     second_along : {Y : Type 0} (first : Event R) (leads : Reply R → Result Y Answer) (comes_to : Y → Event R → Type 0)
         (T : Y → Machine → Type 0) → IsCallAlong m front first leads comes_to T
-        → (rests : Type 0) (led : Result Y Answer) (h k : History R) (said : Answer) (x : Whole R)
+        → (rests : Type 0) (led : Result Y Answer) (h k : History R) (said : Answer) (x : WholeRun R)
         → MatchResult led (λ w. (second : Event R) × (last : Reply R) × comes_to w second × BookSteps 0 h second last k
         × (said ≡ said_by last)) (λ answer. (said ≡ answer) × (k ≡ h) × rests)
         → IsWhole m front (λ n. MatchResult led (λ w. T w n) (λ _. IsHere n)) h x
-        → (y : Whole R) × MatchResult led (λ w. (second : Event R) × (last : Reply R) × comes_to w second × WholeSteps 0 x second last y
+        → (y : WholeRun R) × MatchResult led (λ w. (second : Event R) × (last : Reply R) × comes_to w second × WholeSteps 0 x second last y
         × (said ≡ said_by last)) (λ answer. (said ≡ answer) × (y ≡ x) × rests)
         × IsWhole m front IsHere k y
     second_along first leads comes_to T f rests (Ok w) h k said x a s = let d = f.ends w a.0 a.2 h k x a.1 a.3 s in
@@ -116,9 +116,9 @@ module _ {R : Type 0} (m : Machine) (front : List Entry) where
 
     twice_along : {Y : Type 0} (first : Ask) (leads : Reply R → Result Y Answer) (comes_to : Y → Event R → Type 0)
         (T : Y → Machine → Type 0) → IsCallAlong m front (event.Ask first) leads comes_to T
-        → (rests : Type 0) (h k : History R) (said : Answer) (x : Whole R)
+        → (rests : Type 0) (h k : History R) (said : Answer) (x : WholeRun R)
         → AsksTwice (by_book resource) first leads comes_to rests h said k → IsWhole m front IsHere h x
-        → (y : Whole R) × AsksTwice (by_whole resource) first leads comes_to rests x said y × IsWhole m front IsHere k y
+        → (y : WholeRun R) × AsksTwice (by_whole resource) first leads comes_to rests x said y × IsWhole m front IsHere k y
     twice_along first leads comes_to T f rests h k said x a s =
         let d = f.begins h a.1 x a.0 a.2 s in
         let e = second_along (event.Ask first) leads comes_to T f rests (leads a.0) a.1 k said d.0 a.3 d.2 in
@@ -126,9 +126,9 @@ module _ {R : Type 0} (m : Machine) (front : List Entry) where
 
     -- ---- Commands
 
-    carried_along : (c : Command) (h k : History R) (d d' : D) (said : Answer) (x : Whole R)
+    carried_along : (c : Command) (h k : History R) (d d' : D) (said : Answer) (x : WholeRun R)
         → CarriesOut (by_book resource) device resource 0 c h d said k d' → IsWhole m front IsHere h x
-        → (y : Whole R) × CarriesOut (by_whole resource) device resource 0 c x d said y d' × IsWhole m front IsHere k y
+        → (y : WholeRun R) × CarriesOut (by_whole resource) device resource 0 c x d said y d' × IsWhole m front IsHere k y
     carried_along (Open mode path) h k d d' said x a s =
         let comes_to : Unit {0} → Event R → Type 0 = λ u. TellsOpened device 0 mode path d d' in
         twice_along (ask.Prepare 0) prepared_by comes_to _ (opens_along m front comes_to (λ u e t. (t.0, t.2))) (d' ≡ d) h k said x a s
@@ -160,7 +160,7 @@ module _ {R : Type 0} (m : Machine) (front : List Entry) where
     carried_along c h k d d' said x a s = let t = once_along (ask_by 0 c) (asks_quietly c) h k said x a.0 s in (t.0, (t.1, a.1), t.2)
 
     -- a device is the same in both
-    abbrev pub Along : History R × D → Whole R × D → Type 0
+    abbrev pub Along : History R × D → WholeRun R × D → Type 0
     Along h x = IsWhole m front IsHere h.0 x.0 × (h.1 ≡ x.1)
 
     pub followed : IsFollowed (by_asks (by_book resource) device resource) (by_asks (by_whole resource) device resource) Along
@@ -177,9 +177,9 @@ module _ {R : Type 0} (m : Machine) (front : List Entry) where
     }
 
     -- what the lines come to
-    pub lines_along : (at_end : Type 0) (end : SessionEnd) (bytes : List ℕ) (h k : History R) (d d' : D) (out : List ℕ) (x : Whole R)
+    pub lines_along : (at_end : Type 0) (end : SessionEnd) (bytes : List ℕ) (h k : History R) (d d' : D) (out : List ℕ) (x : WholeRun R)
         → Ended (by_asks (by_book resource) device resource) at_end end bytes (h, d) out (k, d') → IsWhole m front IsHere h x
-        → (y : Whole R) × Ended (by_asks (by_whole resource) device resource) at_end end bytes (x, d) out (y, d')
+        → (y : WholeRun R) × Ended (by_asks (by_whole resource) device resource) at_end end bytes (x, d) out (y, d')
         × IsWhole m front IsHere k y
     lines_along at_end end bytes h k d d' out x a s =
         let e = ended_along (by_asks (by_book resource) device resource) (by_asks (by_whole resource) device resource) Along followed at_end

@@ -32,10 +32,10 @@ use Rattle.jlr_session.specs.Serving.{Follows, IsTurnedAway, Serves}
 use Rattle.jlr_session.specs.declared.shell.SessionEnd.{SessionEnd}
 use Rattle.jlr_prog.specs.Histories.{History, IsNewBook}
 use Rattle.jlr_prog.specs.Rules.{BookSteps, Cuts, Readies}
-use Rattle.jlr_prog.specs.Settling.{Helpers, Turns, HandsOver, Works, Cleans, Settles}
+use Rattle.jlr_prog.specs.Settling.{Helpers, Turns, HandsOver, Works, CleansUp, Settles}
 use Rattle.jlr_prog.specs.Solos.{at_book, by_book}
-use Rattle.jlr_prog.specs.Wholes.{Whole, WholeSteps, at_whole, by_whole, given_up, since_opening}
-use Rattle.jlr_prog.specs.Histories.{FromJoinToLeave, IsSession}
+use Rattle.jlr_prog.specs.Wholes.{WholeRun, WholeSteps, at_whole, by_whole, given_up, since_opening}
+use Rattle.jlr_prog.specs.Histories.{FromJoinToLeave, IsWholeSession}
 use Rattle.jlr_prog.proofs.Calls.{IsHere, joins, leaves}
 use Rattle.jlr_prog.proofs.Recorded.{IsWhole, recorded, end_recorded, stayed}
 use Rattle.jlr_prog.proofs.Recorded as rec
@@ -66,7 +66,7 @@ no_turns turn [] old new never same = same
 no_turns turn (next ∷ later) old new never t = absurd (never next t.0)
 
 module _ {H R : Type 0} (helpers : Helpers H R) (resource : Handling R) where
-  nothing_cleaned : (old new : H) → helpers.line old ≡ [] → Cleans helpers resource old new → new ≡ old
+  nothing_cleaned : (old new : H) → helpers.line old ≡ [] → CleansUp helpers resource old new → new ≡ old
   nothing_cleaned old new line (inl u) = no_turns (Works helpers resource) u.states old new (λ next t. t.0 line) u.turns
   nothing_cleaned old new line (inr u) =
       let same = no_turns (Works helpers resource) u.states old u.before (λ next t. t.0 line) u.turns in
@@ -101,7 +101,7 @@ Joins {R} h k reply n = ((reply ≡ answered_ok) × IsHere n)
     ⊎ ((k ≡ h) × (by : Refusal) × (resource : Option R) × (reply ≡ Answered (Refused by) resource))
 
 module _ {R : Type 0} (m : Machine) where
-  joined : (h k : History R) (reply : Reply R) (x : Whole R) → BookSteps 0 h (Asks (ask.Join 0)) reply k
+  joined : (h k : History R) (reply : Reply R) (x : WholeRun R) → BookSteps 0 h (Asks (ask.Join 0)) reply k
       → IsWhole m [] (λ n. refusal n (ask.Join 0) ≡ None) h x → rec.Follows m [] (Joins h k reply) 0 (Asks (ask.Join 0)) reply k x
   joined h k reply x steps w =
       recorded m [] (λ n. refusal n (ask.Join 0) ≡ None) (Joins h k reply) (Asks (ask.Join 0)) (ask.Join 0) refl refl (λ n seen free. free)
@@ -113,7 +113,7 @@ module _ {R : Type 0} (m : Machine) where
       (λ n by resource same said free. inr (same, by, resource, said)) w
 
   -- the leave of a mutator that is there
-  left : (front : List Entry) (h k : History R) (reply : Reply R) (x : Whole R) → BookSteps 0 h (Asks (ask.Leave 0)) reply k
+  left : (front : List Entry) (h k : History R) (reply : Reply R) (x : WholeRun R) → BookSteps 0 h (Asks (ask.Leave 0)) reply k
       → IsWhole m front IsHere h x → rec.Follows m front (λ n. reply ≡ answered_ok) 0 (Asks (ask.Leave 0)) reply k x
   left front h k reply x steps w =
       end_recorded m front IsHere (λ n. reply ≡ answered_ok) (Asks (ask.Leave 0)) (ask.Leave 0) refl refl 0 h k x reply steps
@@ -143,7 +143,7 @@ nothing_let_go true = refl
 nothing_let_go false = refl
 
 -- where nothing was recorded, and no cycle is open
-join_is_first : {R : Type 0} (x y : Whole R) → x.earlier ≡ [] → x.book.entries ≡ [] → x.book.core.machine.cycle_open ≡ false
+join_is_first : {R : Type 0} (x y : WholeRun R) → x.earlier ≡ [] → x.book.entries ≡ [] → x.book.core.machine.cycle_open ≡ false
     → WholeSteps 0 x (Asks (ask.Join 0)) answered_ok y
     → (chosen : Chosen) × (since_opening y ≡ ok_entry (ask.Join 0) chosen ∷ [])
 join_is_first {R} x y before trace shut steps = elim (steps.book) [
@@ -169,7 +169,7 @@ join_is_first {R} x y before trace shut steps = elim (steps.book) [
   ]
 ]
 
-leave_is_last : {R : Type 0} (x y : Whole R) → WholeSteps 0 x (Asks (ask.Leave 0)) answered_ok y → (chosen : Chosen)
+leave_is_last : {R : Type 0} (x y : WholeRun R) → WholeSteps 0 x (Asks (ask.Leave 0)) answered_ok y → (chosen : Chosen)
     × (since_opening y ≡ since_opening x ++ ok_entry (ask.Leave 0) chosen ∷ [])
 leave_is_last {R} x y steps = elim (steps.book) [
   | inl s ↦
@@ -199,7 +199,7 @@ module _ {D R : Type 0} (device : Opening D R) (resource : Handling R) (limits :
   abbrev nothing_yet : Machine
   nothing_yet = empty limits.cells limits.sessions limits.resources
 
-  abbrev whole_at_start : Whole R
+  abbrev whole_at_start : WholeRun R
   whole_at_start = record { book = start; earlier = [] }
 
   formed : IsWellFormed nothing_yet
@@ -219,12 +219,12 @@ module _ {D R : Type 0} (device : Opening D R) (resource : Handling R) (limits :
       }
 
   -- the book of a whole
-  since_is : (h : History R) (x : Whole R) → x.book ≡ h → since_opening x ≡ x.earlier ++ h.entries
+  since_is : (h : History R) (x : WholeRun R) → x.book ≡ h → since_opening x ≡ x.earlier ++ h.entries
   since_is h x is = ap {A = History R} {B = List Entry} (λ b. x.earlier ++ b.entries) is
 
-  keeps : (P : Machine → Type 0) (front : List Entry) (x : Whole R) (w : IsWhole nothing_yet front P over x)
+  keeps : (P : Machine → Type 0) (front : List Entry) (x : WholeRun R) (w : IsWhole nothing_yet front P over x)
       → Serves (by_whole resource) device resource at_end end bytes whole_at_start d out x d' → FromJoinToLeave (since_opening x)
-      → IsSession device resource limits at_end end bytes d out d' over
+      → IsWholeSession device resource limits at_end end bytes d out d' over
   keeps P front x w serves entries =
       let run = subst (λ l. Run nothing_yet l w.after.0) (sym (since_is over x w.is)) w.after.1 in
       record {
@@ -243,9 +243,9 @@ module _ {D R : Type 0} (device : Opening D R) (resource : Handling R) (limits :
       }
 
   -- the join was answered ok
-  served : (now : History R) (y : Whole R) → WholeSteps 0 whole_at_start (Asks (ask.Join 0)) answered_ok y
+  served : (now : History R) (y : WholeRun R) → WholeSteps 0 whole_at_start (Asks (ask.Join 0)) answered_ok y
       → IsWhole nothing_yet [] IsHere now y → Follows (by_book resource) device resource Done at_end end bytes now d out over d'
-      → IsSession device resource limits at_end end bytes d out d' over
+      → IsWholeSession device resource limits at_end end bytes d out d' over
   served now y steps w follows =
       let shut : start.core.machine.cycle_open ≡ false = ap {A = Machine} {B = Bool} (λ n. n.cycle_open) begins.core.machine in
       let one = join_is_first whole_at_start y refl begins.entries shut steps in
@@ -262,7 +262,7 @@ module _ {D R : Type 0} (device : Opening D R) (resource : Handling R) (limits :
       (inl (ok_entry (ask.Join 0) one.0, t.2.begins.0, ok_entry (ask.Leave 0) end_is.0, all, (refl, refl, refl), (refl, refl, refl)))
 
   -- the book declined the join
-  turned_away : (by : Refusal) (now : History R) (y : Whole R) → y.book ≡ now → now ≡ start
+  turned_away : (by : Refusal) (now : History R) (y : WholeRun R) → y.book ≡ now → now ≡ start
       → IsTurnedAway (by_book resource) by end now out over → (over ≡ now) × IsTurnedAway (by_whole resource) by end y out y
   turned_away by now y is same t =
       let at_start : y.book ≡ start = is ∙ same in
@@ -277,11 +277,11 @@ module _ {D R : Type 0} (device : Opening D R) (resource : Handling R) (limits :
         | inr f ↦ (f.3, inr (f.0, f.1, f.2, refl))
       ]
 
-  declined : (by : Refusal) (back : Option R) (now : History R) (y : Whole R)
+  declined : (by : Refusal) (back : Option R) (now : History R) (y : WholeRun R)
       → WholeSteps 0 whole_at_start (Asks (ask.Join 0)) (Answered (Refused by) back) y → y.book ≡ now → length y.earlier ≡ now.base
       → now ≡ start
       → Follows (by_book resource) device resource (Refused by) at_end end bytes now d out over d'
-      → IsSession device resource limits at_end end bytes d out d' over
+      → IsWholeSession device resource limits at_end end bytes d out d' over
   declined by back now y steps is numbered same follows =
       let t = turned_away by now y is same follows.0 in
       let before : y.earlier ≡ [] = none_in y.earlier (numbered ∙ ap {A = History R} {B = ℕ} (λ b. b.base) same ∙ begins.base) in
@@ -308,7 +308,7 @@ module _ {D R : Type 0} (device : Opening D R) (resource : Handling R) (limits :
       keeps (λ n. Unit {0}) [] y w (Answered (Refused by) back, y, steps, (t.1, follows.1, follows.2)) (inr none)
 
   tells : Serves (by_book resource) device resource at_end end bytes start d out over d'
-      → IsSession device resource limits at_end end bytes d out d' over
+      → IsWholeSession device resource limits at_end end bytes d out d' over
   tells serves =
       let j = joined nothing_yet start serves.1 serves.0 whole_at_start serves.2 starts in
       elim (j.2.after.5) [
@@ -325,5 +325,5 @@ module _ {D R : Type 0} (device : Opening D R) (resource : Handling R) (limits :
 
   -- of the book that is given back
   pub is_session : Serves (by_book resource) device resource at_end end bytes start d out over d' → (book : History R) → book ≡ over
-      → IsSession device resource limits at_end end bytes d out d' book
-  is_session serves book same = subst (λ b. IsSession device resource limits at_end end bytes d out d' b) (sym same) (tells serves)
+      → IsWholeSession device resource limits at_end end bytes d out d' book
+  is_session serves book same = subst (λ b. IsWholeSession device resource limits at_end end bytes d out d' b) (sym same) (tells serves)

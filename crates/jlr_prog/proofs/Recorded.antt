@@ -29,7 +29,7 @@ use Rattle.jlr_prog.specs.Histories.{History, seated}
 use Rattle.jlr_prog.specs.Rules.{AsksBy, BookSteps, Cuts, Declines, EndsBy, GivesUp, Readies, StepsBy}
 use Rattle.jlr_prog.specs.Rules as rules
 use Rattle.jlr_prog.proofs.Entering.{abandon_answers, end_chooses}
-use Rattle.jlr_prog.specs.Wholes.{Whole, WholeSteps, given_up}
+use Rattle.jlr_prog.specs.Wholes.{WholeRun, WholeSteps, given_up}
 
 -- ---- Lists and bits
 
@@ -97,7 +97,7 @@ begins_more front entries more entries' is b =
 abbrev entry_by : ℕ → Ask → Answer → Chosen → Entry
 entry_by seat asked answer chosen = record { seat = seat; ask = asked; answer = answer; choice = chosen }
 
-abbrev whole : {R : Type 0} → History R → List Entry → Whole R
+abbrev whole : {R : Type 0} → History R → List Entry → WholeRun R
 whole h earlier = record { book = h; earlier = earlier }
 
 module _ {R : Type 0} (m : Machine) where
@@ -176,15 +176,15 @@ module _ {R : Type 0} (m : Machine) where
   -- the entries since opening begin so
   module _ (front : List Entry) where
     -- it is the book that is told as a whole
-    pub record IsWhole (P : Machine → Type 0) (h : History R) (x : Whole R) : Type 0 where
+    pub record IsWhole (P : Machine → Type 0) (h : History R) (x : WholeRun R) : Type 0 where
       pub is : x.book ≡ h
       pub numbered : length x.earlier ≡ h.base
       pub begins : Begins front (x.earlier ++ h.entries)
       pub after : IsAfter P h.core (x.earlier ++ h.entries)
 
     -- an event and its reply lead to Q
-    abbrev pub Follows : (Machine → Type 0) → ℕ → Event R → Reply R → History R → Whole R → Type 0
-    Follows Q seat e reply k x = (y : Whole R) × WholeSteps seat x e reply y × IsWhole Q k y
+    abbrev pub Follows : (Machine → Type 0) → ℕ → Event R → Reply R → History R → WholeRun R → Type 0
+    Follows Q seat e reply k x = (y : WholeRun R) × WholeSteps seat x e reply y × IsWhole Q k y
 
     -- the trace goes on
     goes_on : (Q : Machine → Type 0) (seat : ℕ) (e : Event R) (reply : Reply R) (h k : History R) (earlier more : List Entry)
@@ -314,14 +314,14 @@ module _ {R : Type 0} (m : Machine) where
     -- ---- Of any whole
 
     pub recorded : (P Q : Machine → Type 0) (e : Event R) (asked : Ask) → ask_of e ≡ Some asked → is_end asked ≡ false → StaysClosed P
-        → (seat : ℕ) (h k : History R) (x : Whole R) (reply : Reply R) → BookSteps seat h e reply k
+        → (seat : ℕ) (h k : History R) (x : WholeRun R) (reply : Reply R) → BookSteps seat h e reply k
         → LeadsOn P Q e asked reply → LeadsNowhere P Q h k reply → IsWhole P h x → Follows Q seat e reply k x
     recorded P Q e asked is end closed seat h k x reply steps leads nowhere w =
         subst (λ b. Follows Q seat e reply k (whole b x.earlier)) (sym w.is)
         (asked_there P Q e asked is seat h k x.earlier reply steps w.numbered w.begins w.after leads end closed nowhere)
 
     pub end_recorded : (P Q : Machine → Type 0) (e : Event R) (asked : Ask) → ask_of e ≡ Some asked → is_end asked ≡ true
-        → (seat : ℕ) (h k : History R) (x : Whole R) (reply : Reply R) → BookSteps seat h e reply k
+        → (seat : ℕ) (h k : History R) (x : WholeRun R) (reply : Reply R) → BookSteps seat h e reply k
         → LeadsOn P Q e asked reply → IsWhole P h x → Follows Q seat e reply k x
     end_recorded P Q e asked is end seat h k x reply steps leads w =
         subst (λ b. Follows Q seat e reply k (whole b x.earlier)) (sym w.is)

@@ -7,7 +7,7 @@ use Rattle.jlr_event.specs.declared.event.Event.TheVariants.{Ask as Asks}
 use Rattle.jlr_event.specs.Events.{outcome_of}
 use Rattle.jlr_event.specs.declared.event.Reply.{Reply}
 use Rattle.jlr_device.specs.Handling.{Handling}
-use Rattle.jlr_prog.specs.Settling.{Helpers, Turns, TurnsToTheEnd, TurnsUntilRefused, HandsOver, DoesJob, Works, Cleans, Settles}
+use Rattle.jlr_prog.specs.Settling.{Helpers, Turns, TurnsToTheEnd, TurnsUntilRefused, HandsOver, DoesJob, Works, CleansUp, Settles}
 
 abbrev pub IsTurnAlong : {H X : Type 0} → (H → H → Type 0) → (X → X → Type 0) → (H → X → Type 0) → Type 0
 IsTurnAlong {H} {X} turn other S = (h k : H) (x : X) → turn h k → S h x → (y : X) × other x y × S k y
@@ -84,7 +84,7 @@ module _ {H X R : Type 0} (helpers : Helpers H R) (others : Helpers X R) (S : H 
         | inr none ↦ let d = f.takes_up h k x none.0 none.1 s in (d.0, (some, inr (none.0, d.1, none.2)), d.2)
       ]
 
-  cleans_along : (resource : Handling R) → IsTurnAlong (Cleans helpers resource) (Cleans others resource) S
+  cleans_along : (resource : Handling R) → IsTurnAlong (CleansUp helpers resource) (CleansUp others resource) S
   cleans_along resource h k x t s = elim t [
     | inl u ↦ let d = to_the_end_along (Works helpers resource) (Works others resource) helpers.line others.line S (works_along resource)
         f.same_line h k x u s in (d.0, inl d.1, d.2)

@@ -14,7 +14,7 @@ use Rattle.jlr_session.specs.Calls.{Opening}
 use Rattle.jlr_session.specs.Serving.{Serves}
 use Rattle.jlr_session.specs.declared.shell.SessionEnd.{SessionEnd}
 use Rattle.jlr_prog.specs.Histories.{History, IsNewBook}
-use Rattle.jlr_prog.specs.Wholes.{Whole, by_whole, since_opening}
+use Rattle.jlr_prog.specs.Wholes.{WholeRun, by_whole, since_opening}
 
 -- an ask of mutator 0, answered ok
 abbrev pub IsOk : Ask → Entry → Type 0
@@ -30,10 +30,11 @@ FromJoinToLeave entries =
 -- that went out and the calls of the device belong to what is asked then, and mutator 0 leaves. An ask that the book
 -- declines is no entry. All entries since opening, those among them that cuts let go, are a run of the machine to one
 -- for which the book's core stands, and keep what the package promises. at_end says that the input is at its end
-pub record IsSession {D R : Type 0} (device : Opening D R) (resource : Handling R) (limits : Limits) (at_end : Type 0)
+pub record IsWholeSession {D R : Type 0} (device : Opening D R) (resource : Handling R) (limits : Limits)
+    (at_end : Type 0)
     (end : SessionEnd) (bytes : List ℕ) (d : D) (out : List ℕ) (d' : D) (book : History R) : Type 0 where
-  pub start : Whole R
-  pub over : Whole R
+  pub start : WholeRun R
+  pub over : WholeRun R
   pub last : Machine
   pub begins : IsNewBook limits start.book
   pub none_before : start.earlier ≡ []

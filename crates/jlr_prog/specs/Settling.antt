@@ -81,11 +81,11 @@ module _ {H R : Type 0} (helpers : Helpers H R) (resource : Handling R) where
       ⊎ ((reply : Reply R) × helpers.cleans old (Asks TakeUp) reply new × FoundNothing reply))
 
   -- until the line is empty, or a take-up is refused
-  abbrev pub Cleans : H → H → Type 0
-  Cleans old new = TurnsToTheEnd Works helpers.line old new
+  abbrev pub CleansUp : H → H → Type 0
+  CleansUp old new = TurnsToTheEnd Works helpers.line old new
       ⊎ TurnsUntilRefused helpers.cleans Works (Asks TakeUp) helpers.line old new
 
   -- the handler's turns until nothing is pending, and then the cleaner's; or until the handler is refused
   abbrev pub Settles : H → H → Type 0
-  Settles old new = ((between : H) × HandsAllOver helpers old between × Cleans between new)
+  Settles old new = ((between : H) × HandsAllOver helpers old between × CleansUp between new)
       ⊎ CannotHandOver helpers old new

@@ -14,12 +14,12 @@ use Rattle.jlr_prog.specs.Rules.{BookSteps}
 use Rattle.jlr_prog.specs.Settling.{Helpers, Settles}
 use Rattle.jlr_prog.specs.Solos.{cleaner_seat, handler_seat}
 
-pub record Whole (R : Type 0) : Type 0 where
+pub record WholeRun (R : Type 0) : Type 0 where
   pub book : History R
   -- the entries before the trace
   pub earlier : List Entry
 
-abbrev pub since_opening : {R : Type 0} → Whole R → List Entry
+abbrev pub since_opening : {R : Type 0} → WholeRun R → List Entry
 since_opening x = x.earlier ++ x.book.entries
 
 -- the entry by which a cut gives up an open cycle; it is of the seat whose ask cuts
@@ -29,14 +29,15 @@ given_up seat m =
 
 -- A step of the book. Where its base rose there was a cut, which let go the trace, and the entry of a cycle that it
 -- gave up.
-pub record WholeSteps {R : Type 0} (seat : ℕ) (old : Whole R) (event : Event R) (reply : Reply R) (new : Whole R) : Type
+pub record WholeSteps {R : Type 0} (seat : ℕ) (old : WholeRun R) (event : Event R) (reply : Reply R) (new : WholeRun R)
+    : Type
     0 where
   pub book : BookSteps seat old.book event reply new.book
   pub earlier : new.earlier ≡ old.earlier ++ cond (nat_lt old.book.base new.book.base)
       (old.book.entries ++ given_up seat old.book.core.machine) []
 
 -- the handler and the cleaner of a book
-abbrev pub at_whole : {R : Type 0} → Helpers (Whole R) R
+abbrev pub at_whole : {R : Type 0} → Helpers (WholeRun R) R
 at_whole = record {
   hands = λ old. WholeSteps (handler_seat old.book) old;
   cleans = λ old. WholeSteps (cleaner_seat old.book) old;
@@ -45,5 +46,5 @@ at_whole = record {
 }
 
 -- mutator 0 asks, and a settling is the steps of the handler and the cleaner
-abbrev pub by_whole : {R : Type 0} → Handling R → Asking (Whole R) R
+abbrev pub by_whole : {R : Type 0} → Handling R → Asking (WholeRun R) R
 by_whole resource = record { mutator = λ _. 0; asks = WholeSteps 0; settling = Settles at_whole resource }

@@ -16,7 +16,7 @@ use Rattle.jlr_cells.specs.Contents.{in_state, member_in, members_in, next_in, u
 use Rattle.jlr_laws.proofs.Frames.{is_queue_there, is_reference_there, no_some, some_same}
 use Rattle.jlr_laws.proofs.Sets.{in_front, nothing}
 use Rattle.jlr_barrier.specs.Graphs.{Graph, in_machine, with_objects}
-use Rattle.jlr_refs.specs.Parts.{IsFit, reference_at}
+use Rattle.jlr_refs.specs.Parts.{IsPartOfMachine, reference_at}
 use Rattle.jlr_refs.proofs.Changing.{apart, change_alike, change_apart, change_twice}
 
 -- ---- What the state of a well-formed machine says
@@ -35,7 +35,7 @@ ahead_is_its_queue r q e =
     elim (is_unqueued r.state) as (λ b. cond b r.queue None ≡ Some q → r.queue ≡ Some q) [ true ↦ λ e. e | false ↦ λ e. no_some q e ] e
 
 -- the queue that a reference may be added to is one
-pub ahead_is_queue : (g : Graph) (s q : ℕ) → IsFit g → some_and is_reference (at g.objects s) ≡ true
+pub ahead_is_queue : (g : Graph) (s q : ℕ) → IsPartOfMachine g → some_and is_reference (at g.objects s) ≡ true
     → option_and_then queue_ahead (reference_at g.objects s) ≡ Some q → some_and is_queue (at g.objects q) ≡ true
 ahead_is_queue g s q fit is_ref ahead =
     let r = reference_there (at g.objects s) is_ref in
@@ -48,7 +48,7 @@ front_listed [] s h = no_some s h
 front_listed (x ∷ members) s h = in_front s x members (sym (some_same x s h))
 
 -- a member of a queue is a reference
-pub member_is_reference : (g : Graph) (q s : ℕ) → IsFit g → some_and is_queue (at g.objects q) ≡ true
+pub member_is_reference : (g : Graph) (q s : ℕ) → IsPartOfMachine g → some_and is_queue (at g.objects q) ≡ true
     → member_in (at g.objects q) 0 ≡ Some s → some_and is_reference (at g.objects s) ≡ true
 member_is_reference g q s fit is_q first =
     elim (option_and_then as_members (at g.objects q)) as (λ o. option_and_then as_members (at g.objects q) ≡ o
@@ -70,7 +70,7 @@ no_members (Some (Cleanable c)) e = refl
 no_members (Some (Guard g)) e = refl
 
 -- a reference that may be added to a queue is a member of none
-pub in_no_queue : (g : Graph) (s q : ℕ) → IsFit g → option_and_then queue_ahead (reference_at g.objects s) ≡ Some q → (x : ℕ)
+pub in_no_queue : (g : Graph) (s q : ℕ) → IsPartOfMachine g → option_and_then queue_ahead (reference_at g.objects s) ≡ Some q → (x : ℕ)
     → s ∈ members_in (at g.objects x) → ⊥
 in_no_queue g s q fit ahead x h =
     elim (option_and_then as_members (at g.objects x)) as (λ o. option_and_then as_members (at g.objects x) ≡ o → ⊥) [
@@ -96,7 +96,7 @@ ahead_in (Some (Cleanable c)) h = refl
 ahead_in (Some (Guard g)) h = absurd (both_ways false refl h)
 
 -- nothing is ahead of a member of a queue, in whichever state it comes after it
-pub none_ahead_of_member : (g : Graph) (q s : ℕ) → IsFit g → some_and is_queue (at g.objects q) ≡ true
+pub none_ahead_of_member : (g : Graph) (q s : ℕ) → IsPartOfMachine g → some_and is_queue (at g.objects q) ≡ true
     → member_in (at g.objects q) 0 ≡ Some s → next_in (option_map (with_reference (in_state Removed)) (at g.objects s)) ≡ next_in
     (at g.objects s)
 none_ahead_of_member g q s fit is_q first =

@@ -23,7 +23,7 @@ use Rattle.jlr_barrier.specs.Graphs.{Graph, Known, in_machine}
 use Rattle.jlr_barrier.specs.Snapshots.{IsInHand}
 use Rattle.jlr_barrier.proofs.Held.{by_itself, by_pending}
 use Rattle.jlr_barrier.proofs.OwnRoots.{active_from}
-use Rattle.jlr_refs.specs.Parts.{DeliversFront, HandsOver, IsFit, handed_there}
+use Rattle.jlr_refs.specs.Parts.{DeliversFront, HandsOverReference, IsPartOfMachine, handed_there}
 use Rattle.jlr_refs.proofs.Lining.{split}
 use Rattle.jlr_refs.proofs.Standing.{pending_there}
 
@@ -86,8 +86,9 @@ own_root_in_hand k s own = inr (s, by_itself k.graph s (active_from k.graph.obje
 
 -- ---- The step
 
-pub hands_over_front : (g k : Graph) (s : ℕ) (did : Handed) → IsFit g → slice_get g.pending 0 ≡ Some s → did ≡ handed_there (at g.objects s)
-    → DeliversFront g s did k → HandsOver g did k
+pub hands_over_front : (g k : Graph) (s : ℕ) (did : Handed) → IsPartOfMachine g → slice_get g.pending 0 ≡ Some s → did
+    ≡ handed_there (at g.objects s)
+    → DeliversFront g s did k → HandsOverReference g did k
 hands_over_front g k s did fit first what delivers =
     let list = split g.pending s first in
     let there = pending_there (in_machine fit.0 g) s fit.1 (subst (λ l. s ∈ l) (sym list) (in_front s s (drop 1 g.pending) refl)) in

@@ -17,8 +17,8 @@ use Rattle.jlr_cells.specs.Contents.{next_in}
 use Rattle.jlr_barrier.specs.Graphs.{Graph, in_machine}
 
 -- the heap keeps its part of some well-formed machine
-abbrev pub IsFit : Graph → Type 0
-IsFit g = (m : Machine) × IsWellFormed (in_machine m g)
+abbrev pub IsPartOfMachine : Graph → Type 0
+IsPartOfMachine g = (m : Machine) × IsWellFormed (in_machine m g)
 
 abbrev pub reference_at : Heap → ℕ → Option ReferenceOf
 reference_at heap s = option_and_then as_reference (at heap s)
@@ -48,8 +48,9 @@ DeliversFront g s handed h = (m : Machine)
 abbrev pub queue_in_front : Graph → Option ℕ
 queue_in_front g = option_and_then (λ s. next_in (at g.objects s)) (slice_get g.pending 0)
 
-abbrev pub HandsOver : Graph → Handed → Graph → Type 0
-HandsOver g handed h = (m : Machine) → (hand_over_answer (in_machine m g) g.pending ≡ Some (HandedAnswer handed))
+abbrev pub HandsOverReference : Graph → Handed → Graph → Type 0
+HandsOverReference g handed h = (m : Machine) → (hand_over_answer (in_machine m g) g.pending
+    ≡ Some (HandedAnswer handed))
     × (in_machine m h ≡ handed_over (in_machine m g) g.pending)
 
 -- ---- The line

@@ -8,7 +8,8 @@ ghost use Rattle.jlr_machine.specs.Edges.{is_own_root};
 ghost use Rattle.jlr_cells.specs.Contents.{in_clean_state};
 ghost use Rattle.jlr_marks.specs.Marking.{Shaded};
 ghost use Rattle.jlr_barrier.specs.Graphs.{with_line, with_objects};
-ghost use Rattle.jlr_refs.specs.Parts.{DeliversFront, HandsOver, IsFit, handed_there, queue_in_front};
+ghost use Rattle.jlr_refs.specs.Parts.{DeliversFront, HandsOverReference, IsPartOfMachine, handed_there};
+ghost use Rattle.jlr_refs.specs.Parts.{queue_in_front};
 
 use crate::references::enqueue;
 use jlr_barrier::Heap;
@@ -21,8 +22,8 @@ use jlr_types::Slot;
 /// so is a cleanable that it cleaned. Nothing is handed over where the list is empty. The queue that a reference goes
 /// to is shaded.
 pub fn hand_over(heap: &mut Heap) -> Handed
-    requires fit { IsFit heap.old.graph }
-    ensures handed { HandsOver heap.old.graph result heap.new.graph }
+    requires fit { IsPartOfMachine heap.old.graph }
+    ensures handed { HandsOverReference heap.old.graph result heap.new.graph }
     ensures shaded { Shaded (λ s. (result ≡ Handed.Queued) × (queue_in_front heap.old.graph ≡ Some s)) heap.old.marking
         heap.new.marking }
     ensures clock { heap.new.clock ≡ heap.old.clock }
@@ -68,7 +69,7 @@ fn handed_cleanable(state: CleanState) -> Handed
 
 /// Takes what is at the front of the pending list there. It leaves the list.
 fn deliver(heap: &mut Heap, slot: Slot, handed: Handed)
-    requires fit { IsFit heap.old.graph }
+    requires fit { IsPartOfMachine heap.old.graph }
     requires front { slice_get heap.old.graph.pending 0 ≡ Some slot }
     requires handed { handed ≡ handed_there (at heap.old.graph.objects slot) }
     ensures delivered { DeliversFront heap.old.graph slot handed heap.new.graph }

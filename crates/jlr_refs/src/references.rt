@@ -20,7 +20,7 @@ ghost use Rattle.jlr_cells.specs.declared.shape.Shape.TheVariants as shape;
 ghost use Rattle.jlr_marks.specs.Marking.{Shaded};
 ghost use Rattle.jlr_barrier.specs.Graphs.{gotten_at, used_now, with_objects};
 ghost use Rattle.jlr_barrier.specs.Snapshots.{IsInHand, IsObject};
-ghost use Rattle.jlr_refs.specs.Parts.{Enqueues, IsFit, Polls, reference_at};
+ghost use Rattle.jlr_refs.specs.Parts.{Enqueues, IsPartOfMachine, Polls, reference_at};
 
 use jlr_barrier::Heap;
 use jlr_machine::object::{RefState, Reference};
@@ -62,7 +62,7 @@ pub fn clear(heap: &mut Heap, reference: Slot)
 /// handler reads the reference once.
 #[inline(always)]
 pub fn enqueue(heap: &mut Heap, reference: Slot) -> bool
-    requires fit { IsFit heap.old.graph }
+    requires fit { IsPartOfMachine heap.old.graph }
     requires reference { IsTrue (some_and is_reference (at heap.old.graph.objects reference)) }
     requires held { IsInHand heap.old reference }
     ensures answer { Some result ≡ option_and_then (λ r. Some (may_enqueue r))
@@ -107,7 +107,7 @@ pub fn is_enqueued(heap: &Heap, reference: Slot) -> bool
 /// The reference at the front of a queue leaves it, if there is one, and is Removed (`ReferenceQueue.poll`). It is
 /// shaded.
 pub fn poll(heap: &mut Heap, queue: Slot) -> Option<Slot>
-    requires fit { IsFit heap.old.graph }
+    requires fit { IsPartOfMachine heap.old.graph }
     requires queue { IsTrue (some_and is_queue (at heap.old.graph.objects queue)) }
     ensures front { result ≡ option_and_then front (option_and_then as_members (at heap.old.graph.objects queue)) }
     ensures polled { Polls heap.old.graph queue result heap.new.graph }

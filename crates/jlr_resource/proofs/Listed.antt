@@ -6,11 +6,12 @@ use Rattle.std.proofs.lemmas.Bool.{cond_both, eq-eqb}
 use Rattle.jlr_machine.specs.declared.machine.Resource.{Resource}
 use Rattle.jlr_machine.specs.Lookups.{with_resource}
 use Rattle.jlr_resource.specs.declared.place.Kept.{Kept}
-use Rattle.jlr_resource.specs.Resources.{Held, as_resource, resources_in, resource_in, state_in, state_of, value_of, kept_in, values_in}
+use Rattle.jlr_resource.specs.Resources.{HeldResource, as_resource, resources_in, resource_in, state_in, state_of, value_of, kept_in}
+use Rattle.jlr_resource.specs.Resources.{values_in}
 use Rattle.jlr_resource.specs.Resources.{in_state, ended, with_held, with_kept, without_held}
 
 module _ {R : Type 0} where
-  pub state_found : (held : List (Held R)) (rid : ℕ) → state_in (resources_in held) rid ≡ option_map state_of (kept_in held rid)
+  pub state_found : (held : List (HeldResource R)) (rid : ℕ) → state_in (resources_in held) rid ≡ option_map state_of (kept_in held rid)
   state_found [] rid = refl
   state_found (h ∷ held) rid =
       elim (h.rid == rid) as (λ b. option_map (λ r. r.state) (cond b (Some (as_resource h)) (find (λ r. r.rid == rid) (resources_in held)))
@@ -19,7 +20,7 @@ module _ {R : Type 0} where
         | false ↦ state_found held rid
       ]
 
-  pub resources_changed : (held : List (Held R)) (rid : ℕ) (kept : Kept R)
+  pub resources_changed : (held : List (HeldResource R)) (rid : ℕ) (kept : Kept R)
       → resources_in (with_kept held rid kept) ≡ in_state (resources_in held) rid (state_of kept)
   resources_changed [] rid kept = refl
   resources_changed (h ∷ held) rid kept =
@@ -30,7 +31,7 @@ module _ {R : Type 0} where
         | false ↦ refl
       ])
 
-  pub resources_ended : (held : List (Held R)) (rid : ℕ) → resources_in (without_held held rid) ≡ ended (resources_in held) rid
+  pub resources_ended : (held : List (HeldResource R)) (rid : ℕ) → resources_in (without_held held rid) ≡ ended (resources_in held) rid
   resources_ended [] rid = refl
   resources_ended (h ∷ held) rid =
       elim (h.rid == rid) as (λ b. resources_in (cond (not b) (h ∷ without_held held rid) (without_held held rid))
@@ -39,7 +40,7 @@ module _ {R : Type 0} where
         | false ↦ ap (λ l. as_resource h ∷ l) (resources_ended held rid)
       ]
 
-  pub resources_new : (held : List (Held R)) (new : Held R)
+  pub resources_new : (held : List (HeldResource R)) (new : HeldResource R)
       → resources_in (with_held held new) ≡ with_resource (resources_in held) (as_resource new)
   resources_new [] new = refl
   resources_new (h ∷ held) new =
@@ -52,7 +53,8 @@ module _ {R : Type 0} where
 
   -- ---- Values
 
-  pub values-cons : (h : Held R) (held : List (Held R)) → values_in (h ∷ held) ≡ option_to_list (value_of h.kept) ++ values_in held
+  pub values-cons : (h : HeldResource R) (held : List (HeldResource R)) → values_in (h ∷ held) ≡ option_to_list (value_of h.kept)
+      ++ values_in held
   values-cons h held =
       elim (value_of h.kept) as (λ o. cons_option o (values_in held) ≡ option_to_list o ++ values_in held) [
         | None ↦ refl
@@ -60,7 +62,8 @@ module _ {R : Type 0} where
       ]
 
   -- one that has no value in the table adds none
-  pub values_new : (held : List (Held R)) (new : Held R) → value_of new.kept ≡ None → values_in (with_held held new) ≡ values_in held
+  pub values_new : (held : List (HeldResource R)) (new : HeldResource R) → value_of new.kept ≡ None → values_in (with_held held new)
+      ≡ values_in held
   values_new [] new none = rw (values-cons new [], none) refl
   values_new (h ∷ held) new none =
       cond_both (nat_lt new.rid h.rid) (new ∷ h ∷ held) (h ∷ with_held held new) (λ l. values_in l ≡ values_in (h ∷ held))

@@ -9,7 +9,7 @@ use Rattle.std.proofs.lemmas.List.Sorted.{IsPermutation-trans, IsPermutation-app
 use Rattle.std.proofs.lemmas.List.Sorted.{IsPermutation-append_comm}
 use Rattle.jlr_resource.specs.declared.place.Kept.{Kept}
 use Rattle.jlr_resource.specs.declared.place.Place.{Place}
-use Rattle.jlr_resource.specs.Resources.{Held, value_of, values_in, with_held, with_kept, without_held}
+use Rattle.jlr_resource.specs.Resources.{HeldResource, value_of, values_in, with_held, with_kept, without_held}
 use Rattle.jlr_resource.specs.Places.{held_from}
 use Rattle.jlr_resource.proofs.Listed.{values-cons}
 
@@ -22,13 +22,13 @@ swapped {X} xs ys zs =
     subst (λ a. P a (ys ++ (xs ++ zs))) (append_assoc xs ys zs) (subst (λ b. P ((xs ++ ys) ++ zs) b) (append_assoc ys xs zs) p)
 
 module _ {R : Type 0} where
-  abbrev pub as_held : ℕ → Place R → Held R
+  abbrev pub as_held : ℕ → Place R → HeldResource R
   as_held rid p = record { rid = rid; action = p.action; kept = p.kept }
 
   -- ---- Below the first number there is nothing
 
   found_below : (first : ℕ) (places : List (Option (Place R))) (rid : ℕ) → rid < first
-      → ◌≡◌ {A = Option (Held R)} (find (λ h. h.rid == rid) (held_from first places)) None
+      → ◌≡◌ {A = Option (HeldResource R)} (find (λ h. h.rid == rid) (held_from first places)) None
   found_below first [] rid below = refl
   found_below first (None ∷ places) rid below = found_below (first + 1) places rid (omega arith)
   found_below first (Some p ∷ places) rid below =
@@ -48,7 +48,7 @@ module _ {R : Type 0} where
   without_below first (Some p ∷ places) rid below =
       rw (ne_eqb first rid (omega arith), without_below (first + 1) places rid (omega arith)) refl
 
-  put_below : (first : ℕ) (places : List (Option (Place R))) (new : Held R) → new.rid < first
+  put_below : (first : ℕ) (places : List (Option (Place R))) (new : HeldResource R) → new.rid < first
       → with_held (held_from first places) new ≡ new ∷ held_from first places
   put_below first [] new below = refl
   put_below first (None ∷ places) new below = put_below (first + 1) places new (omega arith)

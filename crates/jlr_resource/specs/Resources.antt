@@ -27,7 +27,7 @@ ended resources rid = filter (λ r. not (r.rid == rid)) resources
 -- ---- What a table holds
 
 -- a resource that has not ended: its Rid, its action, and where it is, with its value where it lies in the table
-pub record Held (R : Type 0) : Type 0 where
+pub record HeldResource (R : Type 0) : Type 0 where
   pub rid : ℕ
   pub action : ℕ
   pub kept : Kept R
@@ -35,7 +35,7 @@ pub record Held (R : Type 0) : Type 0 where
 -- a table holds these resources, with rising Rids; it may hold limit; so many fit with no allocation; and the place
 -- that is given out next
 pub record Resources (R : Type 0) : Type 0 where
-  pub held : List (Held R)
+  pub held : List (HeldResource R)
   pub limit : ℕ
   pub room : ℕ
   pub next : ℕ
@@ -55,10 +55,10 @@ module _ {R : Type 0} where
   value_of Closing = None
 
   -- as the machine has it
-  abbrev pub as_resource : Held R → Resource
+  abbrev pub as_resource : HeldResource R → Resource
   as_resource h = record { rid = h.rid; action = h.action; state = state_of h.kept }
 
-  abbrev pub resources_in : List (Held R) → List Resource
+  abbrev pub resources_in : List (HeldResource R) → List Resource
   resources_in held = map as_resource held
 
   -- the machine's list of resources
@@ -68,14 +68,14 @@ module _ {R : Type 0} where
   abbrev pub state_at : Resources R → ℕ → Option ResourceState
   state_at t rid = state_in (resources t) rid
 
-  abbrev pub kept_in : List (Held R) → ℕ → Option (Kept R)
+  abbrev pub kept_in : List (HeldResource R) → ℕ → Option (Kept R)
   kept_in held rid = option_map (λ h. h.kept) (find (λ h. h.rid == rid) held)
 
   -- where the resource at a Rid is, with its value where it lies here
   abbrev pub kept_at : Resources R → ℕ → Option (Kept R)
   kept_at t rid = kept_in t.held rid
 
-  abbrev pub values_in : List (Held R) → List R
+  abbrev pub values_in : List (HeldResource R) → List R
   values_in held = filter_map (λ h. value_of h.kept) held
 
   -- the values that lie in the table
@@ -84,19 +84,19 @@ module _ {R : Type 0} where
 
   -- ---- Changes of one resource
 
-  abbrev pub with_held : List (Held R) → Held R → List (Held R)
+  abbrev pub with_held : List (HeldResource R) → HeldResource R → List (HeldResource R)
   with_held [] new = new ∷ []
   with_held (h ∷ held) new = if nat_lt new.rid h.rid then new ∷ h ∷ held else h ∷ with_held held new
 
-  abbrev pub with_kept : List (Held R) → ℕ → Kept R → List (Held R)
+  abbrev pub with_kept : List (HeldResource R) → ℕ → Kept R → List (HeldResource R)
   with_kept held rid kept =
-      map {A = Held R} {B = Held R} (λ h. if h.rid == rid then record h { kept = kept } else h) held
+      map {A = HeldResource R} {B = HeldResource R} (λ h. if h.rid == rid then record h { kept = kept } else h) held
 
-  abbrev pub without_held : List (Held R) → ℕ → List (Held R)
+  abbrev pub without_held : List (HeldResource R) → ℕ → List (HeldResource R)
   without_held held rid = filter (λ h. not (h.rid == rid)) held
 
   -- the table with a resource more, which is Opening
-  abbrev pub opening : Resources R → ℕ → ℕ → List (Held R)
+  abbrev pub opening : Resources R → ℕ → ℕ → List (HeldResource R)
   opening t rid action = with_held t.held (record { rid = rid; action = action; kept = Opening })
 
   -- the table after its resource at a Rid went there

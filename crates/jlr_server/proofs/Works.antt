@@ -12,7 +12,7 @@ use Rattle.jlr_event.specs.declared.event.Reply.{Reply}
 use Rattle.jlr_session.specs.Calls.{Opening}
 use Rattle.jlr_log.specs.Seeing.{Seen, seen}
 use Rattle.jlr_hall.specs.declared.step.Step.{Step}
-use Rattle.jlr_hall.specs.Loops.{AsksOnly, Chain, CleansIn, IsCleaners, IsHandlers, IsMarkers}
+use Rattle.jlr_hall.specs.Loops.{AsksOnly, AsksInTurn, CleansIn, IsCleaners, IsHandlers, IsMarkers}
 use Rattle.jlr_hall.proofs.Turns.{same_seat, asks_none, cleans_none}
 use Rattle.jlr_server.specs.Giving.{Giving}
 use Rattle.jlr_server.specs.declared.acceptor.AcceptId.{AcceptId}
@@ -51,7 +51,7 @@ module _ {R : Type 0} where
 module _ {R : Type 0} (limits : Limits) where
   -- asks leave a seat the one that it is
   pub chain_stays : (may : List (Step R) → Event R → Type 0) (p : Seen (Step R)) (asks : List (Event R × Reply R)) (q : Seen (Step R))
-      → Chain limits may p asks q → q.seat ≡ p.seat
+      → AsksInTurn limits may p asks q → q.seat ≡ p.seat
   chain_stays may p [] q c = ap (λ (x : Seen (Step R)). x.seat) c
   chain_stays may p (x ∷ asks) q c = chain_stays may c.0 asks q c.3 ∙ same_seat limits p c.0 x.0 x.1 c.1
 

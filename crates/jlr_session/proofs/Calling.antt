@@ -5,12 +5,12 @@ use Rattle.std.proofs.lemmas.List.{length-take}
 use Rattle.jlr_types.specs.declared.Fault.{Fault}
 use Rattle.jlr_types.specs.declared.Fault.TheVariants.{Other}
 use Rattle.jlr_machine.specs.declared.ask.CallOutcome.{CallOutcome}
-use Rattle.jlr_device.specs.Failures.{Counts, Fits, IsHighest}
+use Rattle.jlr_device.specs.Failures.{Counts, CountsOneMore, IsHighest}
 use Rattle.jlr_device.specs.Handling.{Handling}
-use Rattle.jlr_session.specs.Calls.{Calls, Reads, read_outcome, room_for}
+use Rattle.jlr_session.specs.Calls.{Calls, ReadsUpTo, read_outcome, room_for}
 
 pub called : {T : Type 0} (before after : ℕ) (outcome : Result T Fault) (made unmade : Type 0)
-    → Fits before ⊎ IsHighest before → (Fits before → Counts before outcome after) → (Fits before → made)
+    → CountsOneMore before ⊎ IsHighest before → (CountsOneMore before → Counts before outcome after) → (CountsOneMore before → made)
     → (IsHighest before → (outcome ≡ Err Other) × unmade)
     → Calls before outcome after made unmade
 called before after outcome made unmade (inl fits) counted told uncalled = inl (fits, counted fits, told fits)
@@ -27,11 +27,11 @@ read_bound count (Err fault) le = le
 
 pub reads : {R : Type 0} (resource : Handling R) (count : ℕ) (old new : R) (result : Result ℕ Fault) (room buffer : List ℕ)
     (outcome : CallOutcome)
-    → room ≡ room_for count → Fits (resource.count old) ⊎ IsHighest (resource.count old)
-    → (Fits (resource.count old) → Counts (resource.count old) result (resource.count new))
-    → (Fits (resource.count old) → resource.reads old room result buffer new)
+    → room ≡ room_for count → CountsOneMore (resource.count old) ⊎ IsHighest (resource.count old)
+    → (CountsOneMore (resource.count old) → Counts (resource.count old) result (resource.count new))
+    → (CountsOneMore (resource.count old) → resource.reads old room result buffer new)
     → (IsHighest (resource.count old) → (result ≡ Err Other) × (buffer ≡ room) × (new ≡ old))
-    → IfOk result (λ n. n ≤ length room) → outcome ≡ read_outcome result buffer → Reads resource count old outcome new
+    → IfOk result (λ n. n ≤ length room) → outcome ≡ read_outcome result buffer → ReadsUpTo resource count old outcome new
 reads {R} resource count old new result room buffer outcome e either counted told uncalled bound is =
     let P : List ℕ → Type 0 = λ r. resource.reads old r result buffer new in
     let Q : List ℕ → Type 0 = λ r. IfOk result (λ n. n ≤ length r) in (

@@ -4,14 +4,14 @@ use Rattle.std.specs.Prelude.{codes}
 use Rattle.std.specs.List.{join_with_byte}
 use Rattle.jlr_machine.specs.declared.ask.Answer.{Answer}
 use Rattle.jlr_machine.specs.declared.ask.Answer.TheVariants.{Refused, Done}
-use Rattle.jlr_wire.specs.Lines.{Held, begun, ended_lines}
+use Rattle.jlr_wire.specs.Lines.{HeldLine, begun, ended_lines}
 use Rattle.jlr_wire.specs.Commands.{IsCommand}
 use Rattle.jlr_wire.proofs.Streams.{line_ends}
 use Rattle.jlr_wire.specs.declared.command.Command.TheVariants.{Bye}
 use Rattle.jlr_session.specs.Carrying.{Carrying}
 use Rattle.jlr_session.specs.Limits.{most_lines}
-use Rattle.jlr_session.specs.Turns.{Answers, reply_line, refusal_of}
-use Rattle.jlr_session.specs.Sessions.{Answered, IsDue, Ended}
+use Rattle.jlr_session.specs.Turns.{AnswersLine, reply_line, refusal_of}
+use Rattle.jlr_session.specs.Sessions.{AnsweredLines, IsAnswerDue, Ended}
 use Rattle.jlr_session.specs.Chunks.{SoFar}
 use Rattle.jlr_session.specs.declared.shell.SessionEnd.{SessionEnd}
 use Rattle.jlr_session.specs.declared.shell.SessionEnd.TheVariants.{Bye as EndsByBye, End, Truncated, ReadFault, WriteFault, TooManyLines}
@@ -27,17 +27,18 @@ nothing_shown [] e = refl
 nothing_shown (b ∷ last) e = absurd (omega (arith, ap length e))
 
 -- the lines so far were answered, and the rest stands after them
-answered : {H : Type 0} (carries : Carrying H) (bytes : List ℕ) (held : Held) (n : ℕ) (old : H) (out : List ℕ) (heap : H)
+answered : {H : Type 0} (carries : Carrying H) (bytes : List ℕ) (held : HeldLine) (n : ℕ) (old : H) (out : List ℕ) (heap : H)
     → (s : SoFar carries bytes held n old out heap) → (more rest : List ℕ) → s.last ++ more ≡ rest
-    → Answered carries (bytes ++ more) s.lines rest old out heap
+    → AnsweredLines carries (bytes ++ more) s.lines rest old out heap
 answered carries bytes held n old out heap s more rest e = record {
   joined = ap (λ t. t ++ more) s.are.joined ∙ append_assoc (ended_lines s.lines) s.last more ∙ ap (λ t. ended_lines s.lines ++ t) e;
   each = s.are.each;
   speaks = s.speaks;
 }
 
-answered_now : {H : Type 0} (carries : Carrying H) (bytes : List ℕ) (held : Held) (n : ℕ) (old : H) (out : List ℕ) (heap : H)
-    → (s : SoFar carries bytes held n old out heap) → (rest : List ℕ) → s.last ≡ rest → Answered carries bytes s.lines rest old out heap
+answered_now : {H : Type 0} (carries : Carrying H) (bytes : List ℕ) (held : HeldLine) (n : ℕ) (old : H) (out : List ℕ) (heap : H)
+    → (s : SoFar carries bytes held n old out heap) → (rest : List ℕ) → s.last ≡ rest → AnsweredLines carries bytes s.lines rest old out
+    heap
 answered_now carries bytes held n old out heap s rest e = record {
   joined = s.are.joined ∙ ap (λ t. ended_lines s.lines ++ t) e;
   each = s.are.each;
@@ -47,7 +48,7 @@ answered_now carries bytes held n old out heap s rest e = record {
 few : (n : ℕ) (lines : List (List ℕ)) → length lines ≡ n → n < most_lines → length lines < most_lines
 few n lines e lt = rw e lt
 
-pub ended_end : {H : Type 0} (carries : Carrying H) (bytes : List ℕ) (held : Held) (n : ℕ) (old : H) (out : List ℕ) (heap : H)
+pub ended_end : {H : Type 0} (carries : Carrying H) (bytes : List ℕ) (held : HeldLine) (n : ℕ) (old : H) (out : List ℕ) (heap : H)
     → (at_end : Type 0) → at_end → n < most_lines → SoFar carries bytes held n old out heap → begun held ≡ []
     → Ended carries at_end End bytes old out heap
 ended_end carries bytes held n old out heap at_end is lt s e =
@@ -60,7 +61,8 @@ refused_last shown last e = ap refusal_of e ∙ same_refusal last
 some_last : (shown last : List ℕ) → shown ≡ take 513 last → shown ≢ [] → last ≢ []
 some_last shown last e n none = n (e ∙ ap (take 513) none)
 
-pub ended_truncated : {H : Type 0} (carries : Carrying H) (bytes : List ℕ) (held : Held) (n : ℕ) (old : H) (out : List ℕ) (heap heap' : H)
+pub ended_truncated : {H : Type 0} (carries : Carrying H) (bytes : List ℕ) (held : HeldLine) (n : ℕ) (old : H) (out : List ℕ)
+    (heap heap' : H)
     → (at_end : Type 0) → at_end → n < most_lines → SoFar carries bytes held n old out heap → begun held ≢ [] → carries.settling heap heap'
     → Ended carries at_end Truncated bytes old (out ++ reply_line (Refused (refusal_of (begun held)))) heap'
 ended_truncated carries bytes held n old out heap heap' at_end is lt s some settled = (
@@ -77,7 +79,7 @@ ended_truncated carries bytes held n old out heap heap' at_end is lt s some sett
   ap (λ r. out ++ reply_line (Refused r)) (refused_last (begun held) s.last s.holds),
 )
 
-pub ended_close_fault : {H : Type 0} (carries : Carrying H) (bytes : List ℕ) (held : Held) (n : ℕ) (old : H) (out : List ℕ) (heap : H)
+pub ended_close_fault : {H : Type 0} (carries : Carrying H) (bytes : List ℕ) (held : HeldLine) (n : ℕ) (old : H) (out : List ℕ) (heap : H)
     (k : ℕ)
     → (at_end : Type 0) → at_end → n < most_lines → SoFar carries bytes held n old out heap → begun held ≢ []
     → Ended carries at_end WriteFault bytes old (out ++ take k (reply_line (Refused (refusal_of (begun held))))) heap
@@ -98,8 +100,8 @@ ended_close_fault carries bytes held n old out heap k at_end is lt s some = (
 line_in_rest : (last front rest later : List ℕ) → rest ≡ front ++ 10 ∷ later → last ++ rest ≡ (last ++ front) ++ 10 ∷ later
 line_in_rest last front rest later e = ap (λ t. last ++ t) e ∙ sym (append_assoc last front (10 ∷ later))
 
-pub ended_bye : {H : Type 0} (carries : Carrying H) (bytes : List ℕ) (held : Held) (n : ℕ) (old : H) (out : List ℕ) (heap : H)
-    (rest : List ℕ) (used : ℕ) (held' : Held) (heap' : H)
+pub ended_bye : {H : Type 0} (carries : Carrying H) (bytes : List ℕ) (held : HeldLine) (n : ℕ) (old : H) (out : List ℕ) (heap : H)
+    (rest : List ℕ) (used : ℕ) (held' : HeldLine) (heap' : H)
     → n < most_lines → SoFar carries bytes held n old out heap → AnyEnd held rest used held' → IsCommand held'.bytes Bye
     → carries.settling heap heap'
     → Ended carries ⊥ EndsByBye (bytes ++ rest) old (out ++ reply_line Done) heap'
@@ -117,9 +119,10 @@ ended_bye carries bytes held n old out heap rest used held' heap' lt s h b settl
       refl,
     )
 
-pub ended_turn_fault : {H : Type 0} (carries : Carrying H) (bytes : List ℕ) (held : Held) (n : ℕ) (old : H) (out : List ℕ) (heap : H)
-    (rest : List ℕ) (used : ℕ) (held' : Held) (answer : Answer) (heap' : H) (k : ℕ)
-    → n < most_lines → SoFar carries bytes held n old out heap → AnyEnd held rest used held' → Answers carries held'.bytes heap answer heap'
+pub ended_turn_fault : {H : Type 0} (carries : Carrying H) (bytes : List ℕ) (held : HeldLine) (n : ℕ) (old : H) (out : List ℕ) (heap : H)
+    (rest : List ℕ) (used : ℕ) (held' : HeldLine) (answer : Answer) (heap' : H) (k : ℕ)
+    → n < most_lines → SoFar carries bytes held n old out heap → AnyEnd held rest used held' → AnswersLine carries held'.bytes heap answer
+    heap'
     → Ended carries ⊥ WriteFault (bytes ++ rest) old (out ++ take k (reply_line answer)) heap'
 ended_turn_fault carries bytes held n old out heap rest used held' answer heap' k lt s h a =
     let line = s.last ++ h.front in
@@ -136,21 +139,21 @@ ended_turn_fault carries bytes held n old out heap rest used held' answer heap' 
       refl,
     )
 
-pub ended_fault : {H : Type 0} (carries : Carrying H) (bytes : List ℕ) (held : Held) (n : ℕ) (old : H) (out : List ℕ) (heap : H)
+pub ended_fault : {H : Type 0} (carries : Carrying H) (bytes : List ℕ) (held : HeldLine) (n : ℕ) (old : H) (out : List ℕ) (heap : H)
     (at_end : Type 0)
     → n < most_lines → SoFar carries bytes held n old out heap → Ended carries at_end ReadFault bytes old out heap
 ended_fault carries bytes held n old out heap at_end lt s =
     (s.lines, s.last, answered_now carries bytes held n old out heap s s.last refl, few n s.lines s.counted lt, s.are.open_end)
 
 -- what is left of the bytes once as many lines were answered as may be
-pub ended_many : {H : Type 0} (carries : Carrying H) (bytes : List ℕ) (held : Held) (n : ℕ) (old : H) (out : List ℕ) (heap : H)
+pub ended_many : {H : Type 0} (carries : Carrying H) (bytes : List ℕ) (held : HeldLine) (n : ℕ) (old : H) (out : List ℕ) (heap : H)
     (rest : List ℕ)
     → n ≡ most_lines → SoFar carries bytes held n old out heap → Ended carries ⊥ TooManyLines (bytes ++ rest) old out heap
 ended_many carries bytes held n old out heap rest e s =
     (s.lines, s.last ++ rest, answered carries bytes held n old out heap s rest (s.last ++ rest) refl, s.counted ∙ e)
 
 due_anyhow : {H : Type 0} (carries : Carrying H) (at_end : Type 0) (rest : List ℕ) (old : H) (answer : Answer) (new : H)
-    → IsDue carries ⊥ rest old answer new → IsDue carries at_end rest old answer new
+    → IsAnswerDue carries ⊥ rest old answer new → IsAnswerDue carries at_end rest old answer new
 due_anyhow carries at_end rest old answer new (inl d) = inl d
 due_anyhow carries at_end rest old answer new (inr d) = absurd d.0
 

@@ -4,8 +4,8 @@ use Rattle.jlr_machine.specs.declared.ask.Answer.{Answer}
 use Rattle.jlr_wire.specs.declared.command.Command.{Command}
 use Rattle.jlr_wire.specs.declared.command.Command.TheVariants.{Bye}
 use Rattle.jlr_session.specs.Carrying.{Carrying}
-use Rattle.jlr_session.specs.Turns.{Answers, AnswersAndSettles}
-use Rattle.jlr_session.specs.Sessions.{Speaks, Answered, IsDue, Ended}
+use Rattle.jlr_session.specs.Turns.{AnswersLine, AnswersAndSettles}
+use Rattle.jlr_session.specs.Sessions.{Speaks, AnsweredLines, IsAnswerDue, Ended}
 use Rattle.jlr_session.specs.declared.shell.SessionEnd.{SessionEnd}
 use Rattle.jlr_session.specs.declared.shell.SessionEnd.TheVariants.{Bye as EndsByBye, End, Truncated, ReadFault, WriteFault, TooManyLines}
 use Rattle.jlr_session.specs.declared.shell.SessionEnd.TheVariants.{NotJoined}
@@ -16,8 +16,8 @@ pub record IsFollowed {H X : Type 0} (carries : Carrying H) (tells : Carrying X)
   pub settlings : (h k : H) (x : X) → carries.settling h k → S h x → (y : X) × tells.settling x y × S k y
 
 answers_along : {H X : Type 0} (carries : Carrying H) (tells : Carrying X) (S : H → X → Type 0)
-    → IsFollowed carries tells S → (line : List ℕ) (h k : H) (a : Answer) (x : X) → Answers carries line h a k → S h x → (y : X)
-    × Answers tells line x a y × S k y
+    → IsFollowed carries tells S → (line : List ℕ) (h k : H) (a : Answer) (x : X) → AnswersLine carries line h a k → S h x → (y : X)
+    × AnswersLine tells line x a y × S k y
 answers_along carries tells S f line h k a x (inl c) s = let d = f.commands h k x c.0 a c.2 c.3 s in (d.0, inl (c.0, c.1, c.2, d.1), d.2)
 answers_along carries tells S f line h k a x (inr (inl b)) s = (x, inr (inl (b.0, b.1, refl)), subst (λ l. S l x) (sym b.2) s)
 answers_along carries tells S f line h k a x (inr (inr r)) s = (x, inr (inr (r.0, r.1, refl)), subst (λ l. S l x) (sym r.2) s)
@@ -41,15 +41,15 @@ speaks_along carries tells S f (line ∷ lines) h k out x e s =
 
 answered_along : {H X : Type 0} (carries : Carrying H) (tells : Carrying X) (S : H → X → Type 0)
     → IsFollowed carries tells S → (bytes : List ℕ) (lines : List (List ℕ)) (rest : List ℕ) (h k : H) (out : List ℕ) (x : X)
-    → Answered carries bytes lines rest h out k → S h x
-    → (y : X) × Answered tells bytes lines rest x out y × S k y
+    → AnsweredLines carries bytes lines rest h out k → S h x
+    → (y : X) × AnsweredLines tells bytes lines rest x out y × S k y
 answered_along carries tells S f bytes lines rest h k out x a s =
     let d = speaks_along carries tells S f lines h k out x a.speaks s in
     (d.0, record { joined = a.joined; each = a.each; speaks = d.1 }, d.2)
 
 due_along : {H X : Type 0} (carries : Carrying H) (tells : Carrying X) (S : H → X → Type 0)
-    → IsFollowed carries tells S → (at_end : Type 0) (rest : List ℕ) (h k : H) (a : Answer) (x : X) → IsDue carries at_end rest h a k
-    → S h x → (y : X) × IsDue tells at_end rest x a y × S k y
+    → IsFollowed carries tells S → (at_end : Type 0) (rest : List ℕ) (h k : H) (a : Answer) (x : X) → IsAnswerDue carries at_end rest h a k
+    → S h x → (y : X) × IsAnswerDue tells at_end rest x a y × S k y
 due_along carries tells S f at_end rest h k a x (inl d) s = let e = answers_along carries tells S f d.0 h k a x d.4 s in
     (e.0, inl (d.0, d.1, d.2, d.3, e.1), e.2)
 due_along carries tells S f at_end rest h k a x (inr d) s = (x, inr (d.0, d.1, d.2, d.3, refl), subst (λ l. S l x) (sym d.4) s)

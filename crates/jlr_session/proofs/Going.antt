@@ -6,15 +6,15 @@ use Rattle.std.proofs.lemmas.Bool.{cases_lt, le-ltb, lt-ltb}
 use Rattle.std.proofs.lemmas.List.Elements.{All-nil}
 use Rattle.jlr_machine.specs.declared.ask.Answer.{Answer}
 use Rattle.jlr_machine.specs.declared.ask.Answer.TheVariants.{Refused}
-use Rattle.jlr_wire.specs.Lines.{Held, begun, nothing_held, IsInLine}
-use Rattle.jlr_wire.specs.Feeding.{Continues, Ends}
+use Rattle.jlr_wire.specs.Lines.{HeldLine, begun, nothing_held, IsInLine}
+use Rattle.jlr_wire.specs.Feeding.{Continues, EndsHeldLine}
 use Rattle.jlr_wire.specs.Commands.{IsCommand}
 use Rattle.jlr_wire.specs.Replies.{words}
 use Rattle.jlr_wire.proofs.Streams.{line_goes_on, line_ends}
 use Rattle.jlr_wire.specs.declared.command.Command.{Command}
 use Rattle.jlr_wire.specs.declared.command.Command.TheVariants.{Bye}
 use Rattle.jlr_session.specs.Carrying.{Carrying}
-use Rattle.jlr_session.specs.Turns.{Answers, AnswersAndSettles, reply_line, refusal_of}
+use Rattle.jlr_session.specs.Turns.{AnswersLine, AnswersAndSettles, reply_line, refusal_of}
 use Rattle.jlr_session.specs.Sessions.{Speaks}
 use Rattle.jlr_session.specs.Chunks.{SoFar}
 
@@ -40,7 +40,7 @@ shown_command line c h =
     let P : List ℕ → Type 0 = λ t. IsCommand t c in subst P (sym all) h
 
 pub answers_line : {H : Type 0} (carries : Carrying H) (shown line : List ℕ) (old : H) (answer : Answer) (new : H)
-    → shown ≡ take 513 line → Answers carries shown old answer new → Answers carries line old answer new
+    → shown ≡ take 513 line → AnswersLine carries shown old answer new → AnswersLine carries line old answer new
 answers_line {H} carries shown line old answer new e (inl h) =
     let P : List ℕ → Type 0 = λ t. IsCommand t h.0 in inl (h.0, whole_command line h.0 (subst P e h.1), h.2, h.3)
 answers_line {H} carries shown line old answer new e (inr (inl h)) =
@@ -89,8 +89,8 @@ so_far_none carries heap = record {
 }
 
 -- the line goes on
-pub so_far_on : {H : Type 0} (carries : Carrying H) (bytes : List ℕ) (held : Held) (n : ℕ) (old : H) (out : List ℕ) (heap : H)
-    (rest : List ℕ) (used : ℕ) (held' : Held)
+pub so_far_on : {H : Type 0} (carries : Carrying H) (bytes : List ℕ) (held : HeldLine) (n : ℕ) (old : H) (out : List ℕ) (heap : H)
+    (rest : List ℕ) (used : ℕ) (held' : HeldLine)
     → SoFar carries bytes held n old out heap → Continues held rest used held'
     → SoFar carries (bytes ++ take used rest) held' n old out heap
 so_far_on carries bytes held n old out heap rest used held' s h =
@@ -98,18 +98,18 @@ so_far_on carries bytes held n old out heap rest used held' s h =
     record { lines = s.lines; last = s.last ++ rest; are = on.0; holds = on.1; counted = s.counted; speaks = s.speaks }
 
 -- the end of a line, however long it is
-abbrev pub AnyEnd : Held → List ℕ → ℕ → Held → Type 0
-AnyEnd = Ends (λ n. Unit {0})
+abbrev pub AnyEnd : HeldLine → List ℕ → ℕ → HeldLine → Type 0
+AnyEnd = EndsHeldLine (λ n. Unit {0})
 
 -- of what a reader of lines holds only the line under way counts
-pub so_far_same : {H : Type 0} (carries : Carrying H) (bytes : List ℕ) (held held' : Held) (n : ℕ) (old : H) (out : List ℕ) (heap : H)
+pub so_far_same : {H : Type 0} (carries : Carrying H) (bytes : List ℕ) (held held' : HeldLine) (n : ℕ) (old : H) (out : List ℕ) (heap : H)
     → begun held' ≡ begun held → SoFar carries bytes held n old out heap → SoFar carries bytes held' n old out heap
 so_far_same carries bytes held held' n old out heap e s =
     record { lines = s.lines; last = s.last; are = s.are; holds = e ∙ s.holds; counted = s.counted; speaks = s.speaks }
 
 -- a line is answered
-pub so_far_line : {H : Type 0} (carries : Carrying H) (bytes : List ℕ) (held : Held) (n : ℕ) (old : H) (out : List ℕ) (heap : H)
-    (rest : List ℕ) (used : ℕ) (held' : Held) (answer : Answer) (heap' : H)
+pub so_far_line : {H : Type 0} (carries : Carrying H) (bytes : List ℕ) (held : HeldLine) (n : ℕ) (old : H) (out : List ℕ) (heap : H)
+    (rest : List ℕ) (used : ℕ) (held' : HeldLine) (answer : Answer) (heap' : H)
     → SoFar carries bytes held n old out heap → AnyEnd held rest used held' → AnswersAndSettles carries held'.bytes heap answer heap'
     → words answer ≢ None → (IsCommand held'.bytes Bye → ⊥)
     → SoFar carries (bytes ++ take used rest) held' (n + 1) old (out ++ reply_line answer) heap'

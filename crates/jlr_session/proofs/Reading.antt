@@ -8,11 +8,11 @@ use Rattle.jlr_wire.specs.Commands.{IsCommand}
 use Rattle.jlr_wire.specs.declared.command.Command.{Command}
 use Rattle.jlr_wire.specs.declared.command.Command.TheVariants.{Bye}
 use Rattle.jlr_session.specs.Carrying.{Carrying}
-use Rattle.jlr_session.specs.Turns.{Answers, AnswersRead, refusal_of}
+use Rattle.jlr_session.specs.Turns.{AnswersLine, AnswersRead, refusal_of}
 
 pub answers_read : {H : Type 0} (carries : Carrying H) (line : List ℕ) (read : Result Command Refusal) (old : H) (answer : Answer) (new : H)
     → ((c : Command) → (read ≡ Ok c) ↔ IsCommand line c) → IfErr read (λ e. e ≡ refusal_of line) → AnswersRead carries read old answer new
-    → Answers carries line old answer new
+    → AnswersLine carries line old answer new
 answers_read carries line (Ok command) old answer new exact refused (inl carried) =
     inl (command, (exact command).0 refl, carried.0, carried.1)
 answers_read carries line (Ok command) old answer new exact refused (inr bye) =

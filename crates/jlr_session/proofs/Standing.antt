@@ -3,13 +3,13 @@ use Rattle.std.proofs.Common.{◌≡◌, ℕ, ◌+◌, ◌-◌, ◌<◌, ◌≤�
 use Rattle.std.specs.Io.KnownBytes.{Appends, Consumes, IsAtEnd}
 use Rattle.std.proofs.lemmas.List.{append-nil, length-append, length-take-le}
 use Rattle.jlr_machine.specs.declared.ask.Answer.TheVariants.{Refused}
-use Rattle.jlr_wire.specs.Lines.{Held, begun, nothing_held}
+use Rattle.jlr_wire.specs.Lines.{HeldLine, begun, nothing_held}
 use Rattle.jlr_wire.proofs.Sending.{Appends-none, Appends-then}
 use Rattle.jlr_session.specs.Carrying.{Carrying}
 use Rattle.jlr_session.specs.Limits.{FindsEnd, most_lines, most_bytes}
 use Rattle.jlr_session.specs.Turns.{reply_line, refusal_of}
 use Rattle.jlr_session.specs.Sessions.{Ended}
-use Rattle.jlr_session.specs.Chunks.{SoFar, TakesChunk, Closes}
+use Rattle.jlr_session.specs.Chunks.{SoFar, TakesChunk, ClosesInput}
 use Rattle.jlr_session.specs.declared.shell.SessionEnd.{SessionEnd}
 use Rattle.jlr_session.specs.declared.shell.SessionEnd.TheVariants.{Bye, End, Truncated, ReadFault, WriteFault, TooManyLines, NotJoined}
 use Rattle.jlr_session.proofs.Sent.{Consumes-none, Consumes-then}
@@ -17,7 +17,8 @@ use Rattle.jlr_session.proofs.Going.{so_far_none}
 use Rattle.jlr_session.proofs.Ending.{ended_end, ended_truncated, ended_close_fault, ended_anyhow}
 
 -- what was read was answered as far as it goes, n lines of it, and so many bytes are left to be taken
-abbrev pub Stands : {H : Type 0} → Carrying H → Option (List ℕ) → Option (List ℕ) → H → Option (List ℕ) → Option (List ℕ) → Held → ℕ → H → ℕ
+abbrev pub Stands : {H : Type 0} → Carrying H → Option (List ℕ) → Option (List ℕ) → H → Option (List ℕ) → Option (List ℕ) → HeldLine → ℕ → H
+    → ℕ
     → Type 0
 Stands {H} carries r0 w0 old r w held n heap left = (bytes : List ℕ) × (out : List ℕ) × Consumes r0 r bytes × Appends w0 w out
     × (length bytes + left ≡ most_bytes) × SoFar carries bytes held n old out heap
@@ -28,7 +29,7 @@ abbrev pub Ends : {H : Type 0} → Carrying H → Option (List ℕ) → Option (
 Ends {H} carries r0 w0 old r w end heap = (bytes : List ℕ) × (out : List ℕ) × Consumes r0 r bytes × Appends w0 w out
     × (length bytes ≤ most_bytes) × Ended carries (FindsEnd r bytes) end bytes old out heap
 
-pub stands_first : {H : Type 0} (carries : Carrying H) (r0 w0 : Option (List ℕ)) (old : H) (held : Held) → held ≡ nothing_held
+pub stands_first : {H : Type 0} (carries : Carrying H) (r0 w0 : Option (List ℕ)) (old : H) (held : HeldLine) → held ≡ nothing_held
     → Stands carries r0 w0 old r0 w0 held 0 old most_bytes
 stands_first carries r0 w0 old held e = ([], [], Consumes-none r0, Appends-none w0, refl, rw e (so_far_none carries old))
 
@@ -47,7 +48,7 @@ few_bytes bytes left e = omega (arith, e)
 pub taken_of : (buf : List ℕ) (count left : ℕ) → count ≤ length buf → length buf ≤ left → length (take count buf) + (left - count) ≡ left
 taken_of buf count left fits room = omega (arith, length-take-le count buf fits, fits, room)
 
-pub stands_more : {H : Type 0} (carries : Carrying H) (r0 w0 r r' w w' : Option (List ℕ)) (old : H) (held held' : Held) (n n' : ℕ)
+pub stands_more : {H : Type 0} (carries : Carrying H) (r0 w0 r r' w w' : Option (List ℕ)) (old : H) (held held' : HeldLine) (n n' : ℕ)
     (heap heap' : H) (read : List ℕ) (left left' : ℕ)
     → Stands carries r0 w0 old r w held n heap left → Consumes r r' read → length read + left' ≡ left
     → TakesChunk carries held n read heap w None held' n' heap' w'
@@ -61,7 +62,7 @@ stands_more carries r0 w0 r r' w w' old held held' n n' heap heap' read left lef
   u.2 s.0 old s.1 s.5,
 )
 
-pub ends_in_chunk : {H : Type 0} (carries : Carrying H) (r0 w0 r r' w w' : Option (List ℕ)) (old : H) (held held' : Held) (n n' : ℕ)
+pub ends_in_chunk : {H : Type 0} (carries : Carrying H) (r0 w0 r r' w w' : Option (List ℕ)) (old : H) (held held' : HeldLine) (n n' : ℕ)
     (heap heap' : H) (read : List ℕ) (left left' : ℕ) (end : SessionEnd)
     → Stands carries r0 w0 old r w held n heap left → Consumes r r' read → length read + left' ≡ left
     → TakesChunk carries held n read heap w (Some end) held' n' heap' w'
@@ -76,10 +77,10 @@ ends_in_chunk carries r0 w0 r r' w w' old held held' n n' heap heap' read left l
 )
 
 -- what closing adds
-closes : {H : Type 0} (carries : Carrying H) (w0 w w' : Option (List ℕ)) (old : H) (held : Held) (n : ℕ) (heap heap' : H)
+closes : {H : Type 0} (carries : Carrying H) (w0 w w' : Option (List ℕ)) (old : H) (held : HeldLine) (n : ℕ) (heap heap' : H)
     (bytes out : List ℕ) (end : SessionEnd)
     → (at_end : Type 0) → at_end → n < most_lines → Appends w0 w out → SoFar carries bytes held n old out heap
-    → Closes carries end held heap w heap' w'
+    → ClosesInput carries end held heap w heap' w'
     → (all : List ℕ) × Appends w0 w' all × Ended carries at_end end bytes old all heap'
 closes {H} carries w0 w w' old held n heap heap' bytes out End at_end is lt a s k =
     let P : H → Type 0 = λ h. Ended carries at_end End bytes old out h in (
@@ -103,10 +104,11 @@ closes carries w0 w w' old held n heap heap' bytes out ReadFault at_end is lt a 
 closes carries w0 w w' old held n heap heap' bytes out TooManyLines at_end is lt a s k = absurd k
 closes carries w0 w w' old held n heap heap' bytes out (NotJoined by) at_end is lt a s k = absurd k
 
-pub ends_at_end : {H : Type 0} (carries : Carrying H) (r0 w0 r r' w w' : Option (List ℕ)) (old : H) (held : Held) (n : ℕ) (heap heap' : H)
+pub ends_at_end : {H : Type 0} (carries : Carrying H) (r0 w0 r r' w w' : Option (List ℕ)) (old : H) (held : HeldLine) (n : ℕ)
+    (heap heap' : H)
     (read : List ℕ) (left : ℕ) (end : SessionEnd)
     → n < most_lines → Stands carries r0 w0 old r w held n heap left → Consumes r r' read → read ≡ [] → IsAtEnd r' → 0 < left
-    → Closes carries end held heap w heap' w'
+    → ClosesInput carries end held heap w heap' w'
     → Ends carries r0 w0 old r' w' end heap'
 ends_at_end {H} carries r0 w0 r r' w w' old held n heap heap' read left end lt s c e is some k =
     let P : List ℕ → Type 0 = λ x. Consumes r r' x in

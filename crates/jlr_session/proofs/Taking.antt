@@ -4,7 +4,7 @@ use Rattle.std.proofs.Common.{subst, ◌∙◌, append_assoc, arith}
 use Rattle.std.specs.Io.KnownBytes.{Appends}
 use Rattle.std.proofs.lemmas.List.{append-nil, take-append-drop}
 use Rattle.jlr_machine.specs.declared.ask.Answer.TheVariants.{Done}
-use Rattle.jlr_wire.specs.Lines.{Held}
+use Rattle.jlr_wire.specs.Lines.{HeldLine}
 use Rattle.jlr_wire.specs.Feeding.{FindsLine, Continues, EndsLine, line_at}
 use Rattle.jlr_wire.proofs.Sending.{Appends-none, Appends-then}
 use Rattle.jlr_wire.specs.declared.pieces.LineAt.{LineAt}
@@ -19,13 +19,14 @@ use Rattle.jlr_session.proofs.Going.{AnyEnd, so_far_on, so_far_line, so_far_same
 use Rattle.jlr_session.proofs.Ending.{ended_bye, ended_turn_fault, ended_many}
 
 -- the chunk is answered up to the rest, whatever came before it
-abbrev pub Taken : {H : Type 0} → Carrying H → Held → ℕ → H → Option (List ℕ) → List ℕ → List ℕ → Held → ℕ → H → Option (List ℕ) → Type 0
+abbrev pub Taken : {H : Type 0} → Carrying H → HeldLine → ℕ → H → Option (List ℕ) → List ℕ → List ℕ → HeldLine → ℕ → H → Option (List ℕ)
+    → Type 0
 Taken {H} carries held0 n0 heap0 w0 chunk rest held n heap w =
     (front : List ℕ) × (more : List ℕ) × (chunk ≡ front ++ rest) × Appends w0 w more
     × ((bytes : List ℕ) (old : H) (out : List ℕ) → SoFar carries bytes held0 n0 old out heap0
     → SoFar carries (bytes ++ front) held n old (out ++ more) heap)
 
-pub taken_none : {H : Type 0} (carries : Carrying H) (held : Held) (n : ℕ) (heap : H) (w : Option (List ℕ)) (chunk : List ℕ)
+pub taken_none : {H : Type 0} (carries : Carrying H) (held : HeldLine) (n : ℕ) (heap : H) (w : Option (List ℕ)) (chunk : List ℕ)
     → Taken carries held n heap w chunk chunk held n heap w
 taken_none carries held n heap w chunk = ([], [], refl, Appends-none w, λ bytes old out s. rw (append-nil bytes, append-nil out) s)
 
@@ -34,8 +35,8 @@ front_more : (chunk front rest : List ℕ) (used : ℕ) → chunk ≡ front ++ r
 front_more chunk front rest used e =
     e ∙ ap (λ t. front ++ t) (sym (take-append-drop used rest)) ∙ sym (append_assoc front (take used rest) (drop used rest))
 
-pub taken_on : {H : Type 0} (carries : Carrying H) (held0 : Held) (n0 : ℕ) (heap0 : H) (w0 w : Option (List ℕ)) (chunk rest : List ℕ)
-    (held : Held) (n : ℕ) (heap : H) (used : ℕ) (at : LineAt) (held' : Held)
+pub taken_on : {H : Type 0} (carries : Carrying H) (held0 : HeldLine) (n0 : ℕ) (heap0 : H) (w0 w : Option (List ℕ)) (chunk rest : List ℕ)
+    (held : HeldLine) (n : ℕ) (heap : H) (used : ℕ) (at : LineAt) (held' : HeldLine)
     → Taken carries held0 n0 heap0 w0 chunk rest held n heap w → FindsLine held rest used at held' → at ≡ Nowhere
     → Taken carries held0 n0 heap0 w0 chunk (drop used rest) held' n heap w
 taken_on carries held0 n0 heap0 w0 w chunk rest held n heap used at held' t f e =
@@ -50,22 +51,22 @@ taken_on carries held0 n0 heap0 w0 w chunk rest held n heap used at held' t f e 
     )
 
 -- a line that ended is given, and the reader of lines that would hold it
-ended_at : (at : LineAt) (held : Held) (rest : List ℕ) (used : ℕ) (held' : Held) → at ≢ Nowhere → FindsLine held rest used at held'
+ended_at : (at : LineAt) (held : HeldLine) (rest : List ℕ) (used : ℕ) (held' : HeldLine) → at ≢ Nowhere → FindsLine held rest used at held'
     → EndsLine held rest used (line_at at used rest held') held'
 ended_at Nowhere held rest used held' n h = absurd (n refl)
 ended_at Bytes held rest used held' n h = h
 ended_at HeldOf held rest used held' n h = h
 
-abbrev given : List ℕ → Held
+abbrev given : List ℕ → HeldLine
 given line = record { bytes = line; ended = true }
 
-given_end : (held : Held) (rest : List ℕ) (used : ℕ) (line : List ℕ) (held' : Held) → EndsLine held rest used line held'
+given_end : (held : HeldLine) (rest : List ℕ) (used : ℕ) (line : List ℕ) (held' : HeldLine) → EndsLine held rest used line held'
     → AnyEnd held rest used (given line)
 given_end held rest used line held' h =
     record { front = h.front; rest = h.rest; cut = h.cut; taken = h.taken; in_line = h.in_line; size = tt; ended = refl; held = h.given }
 
-pub taken_line : {H : Type 0} (carries : Carrying H) (held0 : Held) (n0 : ℕ) (heap0 : H) (w0 w w' : Option (List ℕ))
-    (chunk rest line : List ℕ) (held : Held) (n : ℕ) (heap : H) (used : ℕ) (at : LineAt) (held' : Held) (heap' : H)
+pub taken_line : {H : Type 0} (carries : Carrying H) (held0 : HeldLine) (n0 : ℕ) (heap0 : H) (w0 w w' : Option (List ℕ))
+    (chunk rest line : List ℕ) (held : HeldLine) (n : ℕ) (heap : H) (used : ℕ) (at : LineAt) (held' : HeldLine) (heap' : H)
     → Taken carries held0 n0 heap0 w0 chunk rest held n heap w → FindsLine held rest used at held' → at ≢ Nowhere
     → line ≡ line_at at used rest held' → TurnEnds carries line heap w None heap' w'
     → Taken carries held0 n0 heap0 w0 chunk (drop used rest) held' (n + 1) heap' w'
@@ -84,8 +85,9 @@ taken_line carries held0 n0 heap0 w0 w w' chunk rest line held n heap used at he
           (given_end held rest used shown held' ends) v.1 v.2 v.4)),
     )
 
-pub taken_end : {H : Type 0} (carries : Carrying H) (held0 : Held) (n0 : ℕ) (heap0 : H) (w0 w w' : Option (List ℕ))
-    (chunk rest line : List ℕ) (held : Held) (n : ℕ) (heap : H) (used : ℕ) (at : LineAt) (held' : Held) (heap' : H) (end : SessionEnd)
+pub taken_end : {H : Type 0} (carries : Carrying H) (held0 : HeldLine) (n0 : ℕ) (heap0 : H) (w0 w w' : Option (List ℕ))
+    (chunk rest line : List ℕ) (held : HeldLine) (n : ℕ) (heap : H) (used : ℕ) (at : LineAt) (held' : HeldLine) (heap' : H)
+    (end : SessionEnd)
     (n' : ℕ)
     → n < most_lines → Taken carries held0 n0 heap0 w0 chunk rest held n heap w → FindsLine held rest used at held' → at ≢ Nowhere
     → line ≡ line_at at used rest held' → TurnEnds carries line heap w (Some end) heap' w'
@@ -119,8 +121,8 @@ taken_end carries held0 n0 heap0 w0 w w' chunk rest line held n heap used at hel
 taken_end carries held0 n0 heap0 w0 w w' chunk rest line held n heap used at held' heap' (NotJoined by) n' lt t f more e u = absurd u
 
 -- as many lines were answered as may be
-pub taken_many : {H : Type 0} (carries : Carrying H) (held0 : Held) (n0 : ℕ) (heap0 : H) (w0 w : Option (List ℕ)) (chunk rest : List ℕ)
-    (held : Held) (n : ℕ) (heap : H)
+pub taken_many : {H : Type 0} (carries : Carrying H) (held0 : HeldLine) (n0 : ℕ) (heap0 : H) (w0 w : Option (List ℕ)) (chunk rest : List ℕ)
+    (held : HeldLine) (n : ℕ) (heap : H)
     → n ≡ most_lines → Taken carries held0 n0 heap0 w0 chunk rest held n heap w
     → TakesChunk carries held0 n0 chunk heap0 w0 (Some TooManyLines) held n heap w
 taken_many carries held0 n0 heap0 w0 w chunk rest held n heap e t = (
@@ -135,8 +137,8 @@ nothing_left [] e = refl
 nothing_left (b ∷ rest) e = absurd (omega (arith, e))
 
 -- nothing is left to be taken
-pub taken_all : {H : Type 0} (carries : Carrying H) (held0 : Held) (n0 : ℕ) (heap0 : H) (w0 w : Option (List ℕ)) (chunk rest : List ℕ)
-    (held : Held) (n : ℕ) (heap : H)
+pub taken_all : {H : Type 0} (carries : Carrying H) (held0 : HeldLine) (n0 : ℕ) (heap0 : H) (w0 w : Option (List ℕ)) (chunk rest : List ℕ)
+    (held : HeldLine) (n : ℕ) (heap : H)
     → length rest ≡ 0 → Taken carries held0 n0 heap0 w0 chunk rest held n heap w
     → TakesChunk carries held0 n0 chunk heap0 w0 None held n heap w
 taken_all carries held0 n0 heap0 w0 w chunk rest held n heap e t =

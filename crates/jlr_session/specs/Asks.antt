@@ -23,7 +23,7 @@ use Rattle.jlr_wire.specs.declared.command.Command.TheVariants.{Read, Write, Clo
 use Rattle.jlr_wire.specs.declared.command.Command.TheVariants.{Stat, Notes, Faults, Bye, Array}
 use Rattle.jlr_session.specs.Carrying.{Carrying}
 use Rattle.jlr_device.specs.Handling.{Handling}
-use Rattle.jlr_session.specs.Calls.{Opening, Opens, Connects, Reads, Writes, Finishes}
+use Rattle.jlr_session.specs.Calls.{Opening, Opens, Connects, ReadsUpTo, Writes, Finishes}
 
 -- In whose name a port asks, what an ask and its reply do to it, and what a settling does.
 pub record Asking (P R : Type 0) : Type 1 where
@@ -124,7 +124,7 @@ TellsConnected {D} {R} device m path d d' second = (outcome : Result R Fault) ×
 
 -- the resource was read, and comes back
 abbrev pub TellsRead : {R : Type 0} → Handling R → ℕ → ℕ → R → Event R → Type 0
-TellsRead {R} resource m count r second = (outcome : CallOutcome) × (r' : R) × Reads resource count r outcome r'
+TellsRead {R} resource m count r second = (outcome : CallOutcome) × (r' : R) × ReadsUpTo resource count r outcome r'
     × (second ≡ event.CheckIn m outcome r')
 
 -- the resource was written, and comes back

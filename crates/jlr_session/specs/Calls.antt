@@ -8,7 +8,7 @@ use Rattle.jlr_machine.specs.declared.ask.CallOutcome.{CallOutcome}
 use Rattle.jlr_machine.specs.declared.ask.CallOutcome.TheVariants.{Data, Wrote, Failed}
 use Rattle.jlr_device.specs.declared.device.Mode.{Mode}
 use Rattle.jlr_device.specs.declared.resource.Finished.{Finished}
-use Rattle.jlr_device.specs.Failures.{Counts, Fits, IsHighest}
+use Rattle.jlr_device.specs.Failures.{Counts, CountsOneMore, IsHighest}
 use Rattle.jlr_device.specs.Handling.{Handling}
 
 -- What the calls of a device may do, its count of failures, and those of its resources.
@@ -22,7 +22,7 @@ pub record Opening (D R : Type 0) : Type 1 where
 -- value, and none was made
 abbrev pub Calls : {T : Type 0} → ℕ → Result T Fault → ℕ → Type 0 → Type 0 → Type 0
 Calls before outcome after made unmade =
-    (Fits before × Counts before outcome after × made) ⊎ (IsHighest before × (outcome ≡ Err Other) × unmade)
+    (CountsOneMore before × Counts before outcome after × made) ⊎ (IsHighest before × (outcome ≡ Err Other) × unmade)
 
 -- a file is opened, and no call of it has failed yet
 abbrev pub Opens : {D R : Type 0} → Opening D R → Mode → List ℕ → D → Result R Fault → D → Type 0
@@ -50,8 +50,8 @@ abbrev pub room_for : ℕ → List ℕ
 room_for count = take (min 200 count) (replicate 200 0)
 
 -- so many bytes are read, or as many of them as there are
-abbrev pub Reads : {R : Type 0} → Handling R → ℕ → R → CallOutcome → R → Type 0
-Reads resource count old outcome new = (result : Result ℕ Fault) × (buffer : List ℕ)
+abbrev pub ReadsUpTo : {R : Type 0} → Handling R → ℕ → R → CallOutcome → R → Type 0
+ReadsUpTo resource count old outcome new = (result : Result ℕ Fault) × (buffer : List ℕ)
     × Calls (resource.count old) result (resource.count new) (resource.reads old (room_for count) result buffer new)
     (new ≡ old)
     × IfOk result (λ n. n ≤ count) × (outcome ≡ read_outcome result buffer)

@@ -9,7 +9,7 @@ use Rattle.jlr_wire.specs.Replies.{words}
 use Rattle.jlr_wire.specs.declared.command.Command.TheVariants.{Bye}
 use Rattle.jlr_session.specs.Carrying.{Carrying}
 use Rattle.jlr_session.specs.Limits.{most_lines}
-use Rattle.jlr_session.specs.Turns.{Answers, AnswersAndSettles, reply_line, refusal_of}
+use Rattle.jlr_session.specs.Turns.{AnswersLine, AnswersAndSettles, reply_line, refusal_of}
 use Rattle.jlr_session.specs.declared.shell.SessionEnd.{SessionEnd}
 use Rattle.jlr_session.specs.declared.shell.SessionEnd.TheVariants.{Bye as EndsByBye, End, Truncated, ReadFault}
 use Rattle.jlr_session.specs.declared.shell.SessionEnd.TheVariants.{WriteFault, TooManyLines, NotJoined}
@@ -23,7 +23,7 @@ Speaks {H} carries (line ∷ lines) old out new =
     × (out ≡ reply_line answer ++ later) × Speaks carries lines next later new
 
 -- The bytes begin with these lines, which were answered; the rest is still to be answered.
-pub record Answered {H : Type 0} (carries : Carrying H) (bytes : List ℕ) (lines : List (List ℕ)) (rest : List ℕ)
+pub record AnsweredLines {H : Type 0} (carries : Carrying H) (bytes : List ℕ) (lines : List (List ℕ)) (rest : List ℕ)
     (old : H) (out : List ℕ) (new : H) : Type 0 where
   pub joined : bytes ≡ ended_lines lines ++ rest
   pub each : All IsInLine lines
@@ -31,10 +31,10 @@ pub record Answered {H : Type 0} (carries : Carrying H) (bytes : List ℕ) (line
 
 -- an answer that is due where these bytes are still to be answered: that of the next line, or, once the input is at its
 -- end, a refusal of what has no end of its line
-abbrev pub IsDue : {H : Type 0} → Carrying H → Type 0 → List ℕ → H → Answer → H → Type 0
-IsDue {H} carries at_end rest old answer new =
+abbrev pub IsAnswerDue : {H : Type 0} → Carrying H → Type 0 → List ℕ → H → Answer → H → Type 0
+IsAnswerDue {H} carries at_end rest old answer new =
     ((line : List ℕ) × (later : List ℕ) × (rest ≡ line ++ 10 ∷ later) × IsInLine line
-    × Answers carries line old answer new)
+    × AnswersLine carries line old answer new)
     ⊎ (at_end × (rest ≢ []) × IsInLine rest × (answer ≡ Refused (refusal_of rest)) × (new ≡ old))
 
 -- what the bytes that were read came to, where at_end says that the input is at its end. A settling follows each reply
@@ -42,23 +42,23 @@ IsDue {H} carries at_end rest old answer new =
 abbrev pub Ended : {H : Type 0} → Carrying H → Type 0 → SessionEnd → List ℕ → H → List ℕ → H → Type 0
 Ended {H} carries at_end EndsByBye bytes old out new =
     (lines : List (List ℕ)) × (later : List ℕ) × (said : List ℕ) × (before : H)
-    × Answered carries bytes lines (codes "bye" ++ 10 ∷ later) old said before × (length lines < most_lines)
+    × AnsweredLines carries bytes lines (codes "bye" ++ 10 ∷ later) old said before × (length lines < most_lines)
     × carries.settling before new × (out ≡ said ++ reply_line Done)
 Ended {H} carries at_end End bytes old out new =
-    at_end × (lines : List (List ℕ)) × Answered carries bytes lines [] old out new × (length lines < most_lines)
+    at_end × (lines : List (List ℕ)) × AnsweredLines carries bytes lines [] old out new × (length lines < most_lines)
 Ended {H} carries at_end Truncated bytes old out new =
     at_end × (lines : List (List ℕ)) × (last : List ℕ) × (said : List ℕ) × (before : H)
-    × Answered carries bytes lines last old said before × (length lines < most_lines) × (last ≢ []) × IsInLine last
+    × AnsweredLines carries bytes lines last old said before × (length lines < most_lines) × (last ≢ []) × IsInLine last
     × carries.settling before new × (out ≡ said ++ reply_line (Refused (refusal_of last)))
 Ended {H} carries at_end ReadFault bytes old out new =
-    (lines : List (List ℕ)) × (last : List ℕ) × Answered carries bytes lines last old out new
+    (lines : List (List ℕ)) × (last : List ℕ) × AnsweredLines carries bytes lines last old out new
     × (length lines < most_lines) × IsInLine last
 Ended {H} carries at_end WriteFault bytes old out new =
     (lines : List (List ℕ)) × (rest : List ℕ) × (said : List ℕ) × (before : H) × (answer : Answer) × (n : ℕ)
-    × Answered carries bytes lines rest old said before × (length lines < most_lines)
-    × IsDue carries at_end rest before answer new
+    × AnsweredLines carries bytes lines rest old said before × (length lines < most_lines)
+    × IsAnswerDue carries at_end rest before answer new
     × (out ≡ said ++ take n (reply_line answer))
 Ended {H} carries at_end TooManyLines bytes old out new =
-    (lines : List (List ℕ)) × (rest : List ℕ) × Answered carries bytes lines rest old out new
+    (lines : List (List ℕ)) × (rest : List ℕ) × AnsweredLines carries bytes lines rest old out new
     × (length lines ≡ most_lines)
 Ended {H} carries at_end (NotJoined by) bytes old out new = ⊥

@@ -19,8 +19,8 @@ abbrev pub refusal_of : List ℕ → Refusal
 refusal_of bytes = if nat_lt 512 (length bytes) then TooLong else Malformed
 
 -- the line is carried out, or it is bye, or it is refused
-abbrev pub Answers : {H : Type 0} → Carrying H → List ℕ → H → Answer → H → Type 0
-Answers {H} carries line old answer new =
+abbrev pub AnswersLine : {H : Type 0} → Carrying H → List ℕ → H → Answer → H → Type 0
+AnswersLine {H} carries line old answer new =
     ((command : Command) × IsCommand line command × (command ≢ Bye) × carries.command old command answer new)
     ⊎ (IsCommand line Bye × (answer ≡ Done) × (new ≡ old))
     ⊎ (((command : Command) → IsCommand line command → ⊥) × (answer ≡ Refused (refusal_of line)) × (new ≡ old))
@@ -34,7 +34,7 @@ AnswersRead carries read old answer new = MatchResult read
 
 -- the line is answered, and the settling follows its reply
 abbrev pub AnswersAndSettles : {H : Type 0} → Carrying H → List ℕ → H → Answer → H → Type 0
-AnswersAndSettles {H} carries line old answer new = (next : H) × Answers carries line old answer next
+AnswersAndSettles {H} carries line old answer new = (next : H) × AnswersLine carries line old answer next
     × carries.settling next new
 
 -- the reply line of an answer, with its end; nothing for an answer that has no line
@@ -60,6 +60,6 @@ TurnEnds {H} carries line old wrote None new written =
 TurnEnds {H} carries line old wrote (Some EndsByBye) new written =
     IsCommand line Bye × carries.settling old new × Appends wrote written (reply_line Done)
 TurnEnds {H} carries line old wrote (Some WriteFault) new written =
-    (answer : Answer) × (n : ℕ) × Answers carries line old answer new
+    (answer : Answer) × (n : ℕ) × AnswersLine carries line old answer new
     × Appends wrote written (take n (reply_line answer))
 TurnEnds {H} carries line old wrote (Some _) new written = ⊥

@@ -10,7 +10,7 @@ use crate::carry::CarryOut;
 use crate::event::ask_for;
 use crate::job::{carry_out, job_of};
 use crate::port::{Port, ReadRoom};
-use crate::reply::{handed_out, prepared, say, write_over};
+use crate::reply::{handed_out, prepared, store_answer, write_over};
 use jlr_device::{Device, Mode, Resource};
 use jlr_event::event::Event;
 use jlr_machine::ask::{Answer, Ask};
@@ -65,7 +65,7 @@ fn ask_once<P: Port<R>, R: Drop>(
     ensures { AsksOnce P.asking (ask_by mutator command.now) port.old answer.new port.new }
 {
     match ask_for(mutator, command) {
-        Some(ask) => say(port.ask(Event::ask(ask), None), answer),
+        Some(ask) => store_answer(port.ask(Event::ask(ask), None), answer),
         None => write_over(answer, Answer::Done),
     }
 }
@@ -92,7 +92,7 @@ where
         (device.new ≡ device.old) port.old answer.new port.new }
 {
     match prepared(port.ask(Event::ask(Ask::Prepare { mutator }), None)) {
-        Ok(()) => say(port.ask(opened(device, mutator, mode, path), None), answer),
+        Ok(()) => store_answer(port.ask(opened(device, mutator, mode, path), None), answer),
         Err(refused) => write_over(answer, refused),
     }
 }
@@ -118,7 +118,7 @@ where
         (device.new ≡ device.old) port.old answer.new port.new }
 {
     match prepared(port.ask(Event::ask(Ask::Prepare { mutator }), None)) {
-        Ok(()) => say(port.ask(connected(device, mutator, path), None), answer),
+        Ok(()) => store_answer(port.ask(connected(device, mutator, path), None), answer),
         Err(refused) => write_over(answer, refused),
     }
 }
@@ -150,7 +150,7 @@ where
     match handed_out(port.ask(Event::ask(Ask::CheckOut { mutator, guard }), None)) {
         Ok(resource) => {
             let told = read_back(device, mutator, resource, count, bytes);
-            say(port.ask(told, Some(copies)), answer);
+            store_answer(port.ask(told, Some(copies)), answer);
         }
         Err(refused) => write_over(answer, refused),
     }
@@ -174,7 +174,7 @@ where
 {
     let bytes = digits.decode();
     match handed_out(port.ask(Event::ask(Ask::CheckOut { mutator, guard }), None)) {
-        Ok(resource) => say(
+        Ok(resource) => store_answer(
             port.ask(
                 written_back(device, mutator, resource, bytes.as_slice()),
                 None,
@@ -228,7 +228,7 @@ fn work<P: Port<R>, R: Resource + Drop>(
         ⊤ port.old answer.new port.new }
 {
     match job_of(port.ask(Event::ask(ask), None)) {
-        Ok(job) => say(port.ask(carry_out(mutator.number(), job), None), answer),
+        Ok(job) => store_answer(port.ask(carry_out(mutator.number(), job), None), answer),
         Err(refused) => write_over(answer, refused),
     }
 }

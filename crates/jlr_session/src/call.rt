@@ -2,7 +2,7 @@
 ghost use Rattle.std.specs.Prelude.{◌≡◌, ◌≤◌, length, IfOk, Result};
 ghost use Rattle.jlr_types.specs.declared.Fault.{Fault};
 ghost use Rattle.jlr_session.specs.Asks.{TellsOpened, TellsConnected, TellsRead, TellsWritten};
-ghost use Rattle.jlr_session.specs.Calls.{Reads, Writes};
+ghost use Rattle.jlr_session.specs.Calls.{ReadsUpTo, Writes};
 
 use jlr_device::guarded::{guarded_connect, guarded_open, guarded_read, guarded_write};
 use jlr_device::{Device, Mode};
@@ -71,7 +71,7 @@ pub(crate) fn read_back<D: Device>(
 }
 
 fn read_of<D: Device>(device: &D, resource: &mut D::Res, count: u8, room: Data) -> CallOutcome
-    ensures { Reads D.Res.handling
+    ensures { ReadsUpTo D.Res.handling
         count resource.old result resource.new }
 {
     let mut buffer = [0u8; CALL_LIMIT];

@@ -3,7 +3,7 @@ ghost use Rattle.std.specs.Prelude.{◌≡◌};
 ghost use Rattle.jlr_session.specs.Asks.{TellsFinished, job_by};
 ghost use Rattle.jlr_session.specs.Calls.{Finishes};
 
-use crate::reply::none;
+use crate::reply::unanswered;
 use jlr_cleaner::Job;
 use jlr_device::Resource;
 use jlr_device::guarded::guarded_finish;
@@ -27,7 +27,7 @@ pub fn job_of<R: Drop>(reply: Reply<R>) -> Result<Job<R>, Answer>
             }),
             answer => Err(answer),
         },
-        Reply::Marked(_) => Err(none()),
+        Reply::Marked(_) => Err(unanswered()),
     }
 }
 

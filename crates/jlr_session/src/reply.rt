@@ -6,7 +6,7 @@ use jlr_event::event::Reply;
 use jlr_machine::ask::{Answer, Handed};
 
 /// What stands for the answer of a piece of marking, which has none. It has no line, so that a session ends by it.
-pub(crate) fn none() -> Answer
+pub(crate) fn unanswered() -> Answer
     ensures { result ≡ no_answer }
 {
     Answer::Handed(Handed::Nothing)
@@ -14,12 +14,12 @@ pub(crate) fn none() -> Answer
 
 /// The answer of a reply. A resource that comes with it is dropped.
 #[inline(always)]
-pub(crate) fn said<R: Drop>(reply: Reply<R>) -> Answer
+pub(crate) fn reply_answer<R: Drop>(reply: Reply<R>) -> Answer
     ensures { result ≡ said_by reply }
 {
     match reply {
         Reply::Answered { answer, .. } => answer,
-        Reply::Marked(_) => none(),
+        Reply::Marked(_) => unanswered(),
     }
 }
 
@@ -33,12 +33,12 @@ pub(crate) fn write_over(answer: &mut Answer, said: Answer)
 
 /// Puts the answer of a reply into the place of another. A resource that comes with it is dropped.
 #[inline(always)]
-pub(crate) fn say<R: Drop>(reply: Reply<R>, answer: &mut Answer)
+pub(crate) fn store_answer<R: Drop>(reply: Reply<R>, answer: &mut Answer)
     ensures { answer.new ≡ said_by reply }
 {
     match reply {
         Reply::Answered { answer: said, .. } => write_over(answer, said),
-        Reply::Marked(_) => write_over(answer, none()),
+        Reply::Marked(_) => write_over(answer, unanswered()),
     }
 }
 
@@ -49,7 +49,7 @@ pub(crate) fn say<R: Drop>(reply: Reply<R>, answer: &mut Answer)
 pub(crate) fn prepared<R: Drop>(reply: Reply<R>) -> Result<(), Answer>
     ensures { result ≡ prepared_by reply }
 {
-    match said(reply) {
+    match reply_answer(reply) {
         Answer::Prepared(_) => Ok(()),
         answer => Err(answer),
     }
@@ -64,7 +64,7 @@ pub(crate) fn handed_out<R: Drop>(reply: Reply<R>) -> Result<R, Answer>
 {
     match reply {
         Reply::Answered { answer, resource } => handed_out_with(answer, resource),
-        Reply::Marked(_) => Err(none()),
+        Reply::Marked(_) => Err(unanswered()),
     }
 }
 

@@ -10,7 +10,7 @@ ghost use Rattle.jlr_session.specs.Serving.{IsTurnedAway, Serves};
 
 use crate::asks::ByAsks;
 use crate::port::Port;
-use crate::reply::said;
+use crate::reply::reply_answer;
 use crate::shell::{SessionEnd, converse};
 use crate::turn::reply;
 use jlr_device::Device;
@@ -68,7 +68,7 @@ fn join<P: Port<R>, R: Drop>(port: &mut P) -> Answer
         × (result ≡ said_by reply) }
 {
     let mutator = port.mutator();
-    said(port.ask(Event::ask(Ask::Join { mutator }), None))
+    reply_answer(port.ask(Event::ask(Ask::Join { mutator }), None))
 }
 
 /// The mutator leaves.

@@ -3,7 +3,7 @@ ghost use Rattle.std.specs.Prelude.{ℕ, List, ◌≡◌, ◌≤◌, ◌<◌, If
 ghost use Rattle.std.specs.Io.KnownBytes.{Appends, Consumes};
 ghost use Rattle.jlr_session.specs.Limits.{FindsEnd, most_lines, most_bytes};
 ghost use Rattle.jlr_session.specs.Sessions.{Ended};
-ghost use Rattle.jlr_session.specs.Chunks.{TakesChunk, Closes};
+ghost use Rattle.jlr_session.specs.Chunks.{TakesChunk, ClosesInput};
 
 use crate::carry::CarryOut;
 use crate::turn::{answer_line, reply};
@@ -127,7 +127,7 @@ fn close<C: CarryOut<H, D>, H, D, W: Write>(
     writer: &mut W,
     heap: &mut H,
 ) -> SessionEnd
-    ensures { (device : D) → Closes C.carries result pieces.now (heap.old, device) (W.contents writer.old)
+    ensures { (device : D) → ClosesInput C.carries result pieces.now (heap.old, device) (W.contents writer.old)
         (heap.new, device) (W.contents writer.new) }
 {
     if !pieces.unfinished() {

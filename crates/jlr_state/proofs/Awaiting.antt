@@ -34,7 +34,7 @@ use Rattle.jlr_cleaner.specs.Jobs.{is_job_of, job_in}
 use Rattle.jlr_cleaner.specs.Cleanings.{Cleanings, after_finish, after_register, after_take_up}
 use Rattle.jlr_cleaner.proofs.Registering.{nothing_there}
 use Rattle.jlr_state.specs.State.{entry_of}
-use Rattle.jlr_state.specs.Events.{StepsBy}
+use Rattle.jlr_state.specs.Events.{StepsMachine}
 use Rattle.jlr_state.specs.Collecting.{Allocates}
 use Rattle.jlr_state.specs.Waiting.{AllWait, Registers, Releases, WaitAsBefore, WaitsOn}
 use Rattle.jlr_state.proofs.Stepping.{IsLegalSome, IsUnseen, Left, met, picked_fit}
@@ -66,7 +66,7 @@ back_legal m n marking ask answer chosen w l left =
     subst (Back m) (sym left) (back_by m l.0 (entry_of ask answer chosen) (picked_fit m marking l.0 w l.1) l.2)
 
 back_from : (m n : Machine) (marking : Marking) (ask : Option Ask) (answer : Option Answer) (chosen : Chosen) → IsUnseen m → IsUnseen n
-    → IsWellFormed m → StepsBy m marking ask answer chosen n → Back m n
+    → IsWellFormed m → StepsMachine m marking ask answer chosen n → Back m n
 back_from m n marking (Some ask) (Some answer) chosen before unseen w s = let l = met m marking ask answer chosen n before unseen s in
     back_legal m n marking ask answer chosen w l.0 l.1
 back_from m n marking (Some ask) None chosen before unseen w s = absurd s
@@ -123,7 +123,7 @@ module _ {R : Type 0} (m n : Machine) (old new : Cleanings R) (wn : IsWellFormed
 pub all_wait_after :
     {R : Type 0} (m n : Machine) (marking : Marking) (old new : Cleanings R) (ask : Option Ask) (answer : Option Answer) (chosen : Chosen)
     → IsUnseen m → IsUnseen n → IsWellFormed m → IsWellFormed n → m.next_action ≡ old.next_action → n.next_action ≡ new.next_action
-    → length n.objects ≡ length m.objects → StepsBy m marking ask answer chosen n → AllWait m old.waiting → WaitsOn n old new
+    → length n.objects ≡ length m.objects → StepsMachine m marking ask answer chosen n → AllWait m old.waiting → WaitsOn n old new
     → AllWait n new.waiting
 all_wait_after m n marking old new ask answer chosen before unseen w wn number number' long s all on =
     waits_on m n old new wn (back_from m n marking ask answer chosen before unseen w s) number number' long all on

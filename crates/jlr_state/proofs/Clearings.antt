@@ -21,7 +21,7 @@ use Rattle.jlr_machine.specs.Run.IsLegal.{carried_out}
 use Rattle.jlr_machine.specs.Choices.{Choosing, collecting, nothing_chosen}
 use Rattle.jlr_machine.specs.Collection.{IsBackground, IsFullClearing, after_collection}
 use Rattle.jlr_machine.specs.WellFormed.{IsWellFormed}
-use Rattle.jlr_laws.specs.Laws.{IsMarked as IsMarkedBy}
+use Rattle.jlr_laws.specs.Laws.{IsFullMarking as IsMarkedBy}
 use Rattle.jlr_laws.proofs.Frames.{no_some, some_same}
 use Rattle.jlr_laws.proofs.Sets.{in_filter}
 use Rattle.jlr_histories.specs.CycleLaws.{with_seen}

@@ -13,7 +13,8 @@ use Rattle.jlr_machine.specs.declared.machine.ResourceState.TheVariants as state
 use Rattle.jlr_laws.proofs.Allowed.{some_and_gives}
 use Rattle.jlr_resource.specs.declared.place.Kept.{Kept}
 use Rattle.jlr_resource.specs.declared.place.Kept.TheVariants as kept
-use Rattle.jlr_resource.specs.Resources.{Held, Resources, kept_at, kept_in, removed, state_at, state_of, value_of, values, values_in}
+use Rattle.jlr_resource.specs.Resources.{HeldResource, Resources, kept_at, kept_in, removed, state_at, state_of, value_of, values}
+use Rattle.jlr_resource.specs.Resources.{values_in}
 use Rattle.jlr_resource.specs.Resources.{with_kept, without_held}
 use Rattle.jlr_resource.proofs.Listed.{state_found, values-cons}
 use Rattle.jlr_cleaner.specs.Cleanings.{Cleanings, HandsOut, after_finish, after_register, table_closed, table_closing}
@@ -99,7 +100,7 @@ module _ {R : Type 0} where
 
   -- ---- Tables that are said exactly
 
-  changed_elsewhere : (held : List (Held R)) (rid other : ℕ) (k : Kept R) → other ≢ rid
+  changed_elsewhere : (held : List (HeldResource R)) (rid other : ℕ) (k : Kept R) → other ≢ rid
       → kept_in (with_kept held rid k) other ≡ kept_in held other
   changed_elsewhere [] rid other k apart = refl
   changed_elsewhere (h ∷ held) rid other k apart =
@@ -116,7 +117,7 @@ module _ {R : Type 0} where
             ]
       ] refl
 
-  changed_there : (held : List (Held R)) (rid : ℕ) (k : Kept R)
+  changed_there : (held : List (HeldResource R)) (rid : ℕ) (k : Kept R)
       → kept_in (with_kept held rid k) rid ≡ option_map (λ _. k) (kept_in held rid)
   changed_there [] rid k = refl
   changed_there (h ∷ held) rid k =
@@ -145,7 +146,8 @@ module _ {R : Type 0} where
         },
       )
 
-  removed_elsewhere : (held : List (Held R)) (rid other : ℕ) → other ≢ rid → kept_in (without_held held rid) other ≡ kept_in held other
+  removed_elsewhere : (held : List (HeldResource R)) (rid other : ℕ) → other ≢ rid → kept_in (without_held held rid) other
+      ≡ kept_in held other
   removed_elsewhere [] rid other apart = refl
   removed_elsewhere (h ∷ held) rid other apart =
       elim (h.rid == rid) as (λ b. (h.rid == rid) ≡ b
@@ -161,7 +163,7 @@ module _ {R : Type 0} where
             ]
       ] refl
 
-  removed_there : (held : List (Held R)) (rid : ℕ) → kept_in (without_held held rid) rid ≡ None
+  removed_there : (held : List (HeldResource R)) (rid : ℕ) → kept_in (without_held held rid) rid ≡ None
   removed_there [] rid = refl
   removed_there (h ∷ held) rid =
       elim (h.rid == rid) as (λ b. (h.rid == rid) ≡ b
@@ -172,7 +174,7 @@ module _ {R : Type 0} where
 
   -- ---- A resource that ends takes no value along
 
-  fewer : (held : List (Held R)) (rid : ℕ) → length (values_in (without_held held rid)) ≤ length (values_in held)
+  fewer : (held : List (HeldResource R)) (rid : ℕ) → length (values_in (without_held held rid)) ≤ length (values_in held)
   fewer [] rid = omega arith
   fewer (h ∷ held) rid =
       elim (h.rid == rid) as (λ b. length (values_in (cond (not b) (h ∷ without_held held rid) (without_held held rid))) ≤ length
@@ -192,7 +194,7 @@ module _ {R : Type 0} where
             ] (values-cons h held) (values-cons h (without_held held rid))
       ]
 
-  one_fewer : (held : List (Held R)) (rid : ℕ) (value : R) → option_and_then value_of (kept_in held rid) ≡ Some value
+  one_fewer : (held : List (HeldResource R)) (rid : ℕ) (value : R) → option_and_then value_of (kept_in held rid) ≡ Some value
       → length (values_in (without_held held rid)) < length (values_in held)
   one_fewer [] rid value lies = absurd (cc lies)
   one_fewer (h ∷ held) rid value lies =
@@ -224,7 +226,7 @@ module _ {R : Type 0} where
             ] (values-cons h held) (values-cons h (without_held held rid))
       ] lies
 
-  none_went : (held : List (Held R)) (rid : ℕ) → values_in (without_held held rid) ≡ values_in held
+  none_went : (held : List (HeldResource R)) (rid : ℕ) → values_in (without_held held rid) ≡ values_in held
       → option_and_then value_of (kept_in held rid) ≡ None
   none_went held rid same =
       elim (option_and_then value_of (kept_in held rid)) as (λ o. option_and_then value_of (kept_in held rid) ≡ o → o ≡ None) [

@@ -29,7 +29,7 @@ use Rattle.jlr_histories.proofs.CoreStands.{core_kept}
 use Rattle.jlr_marks.specs.Marking.{Marking, IsMarked, is_marked}
 use Rattle.jlr_process.specs.Settling.{marked_below}
 use Rattle.jlr_state.specs.State.{Meets, MeetsAsk, MeetsSeen, entry_of, is_collect, marked_in}
-use Rattle.jlr_state.specs.Events.{StepsBy, Enters}
+use Rattle.jlr_state.specs.Events.{StepsMachine, EntersLegally}
 use Rattle.jlr_state.specs.Marks.{Begins, IsFromMarks, MarksReached}
 
 -- a core's machine has nothing seen
@@ -102,7 +102,7 @@ picked_marked m k slots (inr marks) s h = let there = subst (λ l. s ∈ l) mark
 -- ---- Well-formedness
 
 pub well_formed_after : (m n : Machine) (marking : Marking) (ask : Option Ask) (answer : Option Answer) (chosen : Chosen) → IsUnseen m
-    → IsUnseen n → IsWellFormed m → StepsBy m marking ask answer chosen n → IsWellFormed n
+    → IsUnseen n → IsWellFormed m → StepsMachine m marking ask answer chosen n → IsWellFormed n
 well_formed_after m n marking (Some ask) (Some answer) chosen before unseen w s =
     let l = met m marking ask answer chosen n before unseen s in
     subst IsWellFormed (sym l.1) (core_kept m l.0.0 (entry_of ask answer chosen) (picked_fit m marking l.0.0 w l.0.1) l.0.2)
@@ -181,9 +181,9 @@ marked_more core m old new stands reached =
 
 pub enters : (core after_it : Machine) (old new : Marking) (ask : Option Ask) (answer : Option Answer) (chosen : Chosen) → IsUnseen core
     → IsUnseen after_it → IsWellFormed core → length after_it.objects ≡ length core.objects
-    → StepsBy core old ask answer chosen after_it → MarksReached core old after_it new → Begins ask core after_it new → (m : Machine)
+    → StepsMachine core old ask answer chosen after_it → MarksReached core old after_it new → Begins ask core after_it new → (m : Machine)
     → StandsFor core (marked_in core old) m
-    → (n : Machine) × Enters m ask answer chosen n × StandsFor after_it (marked_in after_it new) n
+    → (n : Machine) × EntersLegally m ask answer chosen n × StandsFor after_it (marked_in after_it new) n
 enters core after_it old new (Some ask) (Some answer) chosen before unseen w cells s reached begins m stands =
     let l = met core old ask answer chosen after_it before unseen s in
     let e = entry_of ask answer chosen in

@@ -27,14 +27,14 @@ carries_none TakeUp = false
 carries_none ask = true
 
 -- the table has room for one resource more, in a place that has a number
-abbrev pub HasRoom : {R : Type 0} → Resources R → Type 0
-HasRoom t = (length (resources t) < t.room) × (t.next < 2 ^ 32)
+abbrev pub TableHasRoom : {R : Type 0} → Resources R → Type 0
+TableHasRoom t = (length (resources t) < t.room) × (t.next < 2 ^ 32)
 
 -- The asks that may find no memory in a machine with this table, each where no refusal of its list holds: the table has
 -- no room for one resource more, a list that is not empty is copied, the elements of an array are asked for, or a name
 -- is new
 abbrev pub MayWantMemory : {R : Type 0} → Machine → Resources R → Ask → Type 0
-MayWantMemory m t (Prepare k) = (refusal m (Prepare k) ≡ None) × ¬ (HasRoom t)
+MayWantMemory m t (Prepare k) = (refusal m (Prepare k) ≡ None) × ¬ (TableHasRoom t)
 MayWantMemory m t (Names k) = (refusal m (Names k) ≡ None) × (1 ≤ length m.names)
 MayWantMemory m t (Notes k) = (refusal m (Notes k) ≡ None) × (1 ≤ length m.notes)
 MayWantMemory m t (Faults k) = (refusal m (Faults k) ≡ None) × (1 ≤ length m.faults)
@@ -50,11 +50,11 @@ WantsMemory m t None answer = Unit {0}
 -- ---- What an event and its reply are to the machine
 
 -- an ask met as its answer says; a piece of marking chooses nothing and leaves m
-abbrev pub StepsBy : Machine → Marking → Option Ask → Option Answer → Chosen → Machine → Type 0
-StepsBy m marking (Some ask) (Some answer) chosen n = MeetsAsk m marking ask answer chosen n
-StepsBy m marking (Some ask) None chosen n = ⊥
-StepsBy m marking None (Some answer) chosen n = ⊥
-StepsBy m marking None None chosen n = (chosen ≡ no_choice) × (n ≡ m)
+abbrev pub StepsMachine : Machine → Marking → Option Ask → Option Answer → Chosen → Machine → Type 0
+StepsMachine m marking (Some ask) (Some answer) chosen n = MeetsAsk m marking ask answer chosen n
+StepsMachine m marking (Some ask) None chosen n = ⊥
+StepsMachine m marking None (Some answer) chosen n = ⊥
+StepsMachine m marking None None chosen n = (chosen ≡ no_choice) × (n ≡ m)
 
 -- ---- Entries
 
@@ -65,9 +65,9 @@ entry_with (Some ask) None chosen = None
 entry_with None answer chosen = None
 
 -- an event and its reply are an entry that is legal in m and leads to n; a piece of marking is none, and leaves m
-abbrev pub Enters : Machine → Option Ask → Option Answer → Chosen → Machine → Type 0
-Enters m (Some ask) (Some answer) chosen n = IsLegal m (entry_of ask answer chosen)
+abbrev pub EntersLegally : Machine → Option Ask → Option Answer → Chosen → Machine → Type 0
+EntersLegally m (Some ask) (Some answer) chosen n = IsLegal m (entry_of ask answer chosen)
     × (n ≡ apply m (entry_of ask answer chosen))
-Enters m (Some ask) None chosen n = ⊥
-Enters m None (Some answer) chosen n = ⊥
-Enters m None None chosen n = (chosen ≡ no_choice) × (n ≡ m)
+EntersLegally m (Some ask) None chosen n = ⊥
+EntersLegally m None (Some answer) chosen n = ⊥
+EntersLegally m None None chosen n = (chosen ≡ no_choice) × (n ≡ m)

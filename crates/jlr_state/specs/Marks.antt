@@ -94,9 +94,10 @@ budget_of (Mark budget) = Some budget
 budget_of _ = None
 
 -- a piece of marking is answered as far as it came
-abbrev pub MarksBy : {R : Type 0} → Option ℕ → ℕ → Clock → Machine → Marking → ℕ → Reply R → Marking → ℕ → Type 0
-MarksBy None soft_age clock m old condemned reply new left = Unit {0}
-MarksBy (Some budget) soft_age clock m old condemned reply new left = (progress : Progress) × (reply ≡ Marked progress)
+abbrev pub AnswersPiece : {R : Type 0} → Option ℕ → ℕ → Clock → Machine → Marking → ℕ → Reply R → Marking → ℕ → Type 0
+AnswersPiece None soft_age clock m old condemned reply new left = Unit {0}
+AnswersPiece (Some budget) soft_age clock m old condemned reply new left = (progress : Progress)
+    × (reply ≡ Marked progress)
     × MarksPiece budget soft_age clock m old condemned progress new left
 
 -- an event that is no piece of marking, and opens no cycle, blackens just the objects that it makes, where a cycle is

@@ -8,7 +8,7 @@ use Rattle.jlr_machine.specs.Chosen.{Chosen}
 use Rattle.jlr_machine.specs.declared.entry.Collected.{Collected}
 use Rattle.jlr_machine.specs.Edges.{roots}
 use Rattle.jlr_soft.specs.declared.policy.Mode.{Mode}
-use Rattle.jlr_laws.specs.Laws.{IsMarked}
+use Rattle.jlr_laws.specs.Laws.{IsFullMarking}
 use Rattle.jlr_barrier.specs.Graphs.{Clock}
 use Rattle.jlr_marks.specs.Marking.{Marking, marked}
 use Rattle.jlr_process.specs.Settling.{marked_below}
@@ -20,7 +20,7 @@ use Rattle.jlr_state.specs.Collecting.{after_choice, mode_of}
 -- those members that the policy keeps in this mode
 abbrev pub KeepsIn : Mode → ℕ → Clock → Machine → Chosen → Type 0
 KeepsIn mode soft_age clock m chosen = (c : Collected) → chosen.collected ≡ Some c
-    → IsMarked (keeps (record { soft_age = soft_age; mode = mode }) clock) m.objects (roots m) c.kept c.pending
+    → IsFullMarking (keeps (record { soft_age = soft_age; mode = mode }) clock) m.objects (roots m) c.kept c.pending
 
 -- A collection keeps exactly what is marked, so many objects as there are marks
 abbrev pub KeepsMarked : Machine → Marking → Chosen → Type 0

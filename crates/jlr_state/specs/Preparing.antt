@@ -10,7 +10,7 @@ use Rattle.jlr_cleaner.specs.Cleanings.{Cleanings}
 use Rattle.jlr_barrier.specs.Guards.{AreFree}
 
 -- two cells are free, and there are a place for the resource and a number for its action
-pub record HasPlaces {R : Type 0} (c : Cleanings R) (m : Machine) (k : ℕ) : Type 0 where
+pub record HasRoomForGuard {R : Type 0} (c : Cleanings R) (m : Machine) (k : ℕ) : Type 0 where
   pub joined : IsTrue (is_some (at m.mutators k))
   pub cells : occupied m.objects + 2 ≤ length m.objects
   pub few : length (resources c.table) < c.table.limit

@@ -9,7 +9,7 @@ ghost use Rattle.jlr_state.specs.Collecting.{after_choice, after_fresh};
 ghost use Rattle.jlr_state.specs.State.{Meets, answer_of};
 ghost use Rattle.jlr_state.specs.Flows.{LieAsBefore};
 ghost use Rattle.jlr_state.specs.Waiting.{AllWait, Registers, WaitsOn};
-ghost use Rattle.jlr_state.specs.Preparing.{HasPlaces, Places};
+ghost use Rattle.jlr_state.specs.Preparing.{HasRoomForGuard, Places};
 ghost use Rattle.jlr_state.specs.Marks.{MarksNew};
 
 use crate::state::State;
@@ -74,7 +74,7 @@ impl<R> State<R> {
 
     /// The guard and its cleanable come into two free cells, and the resource into its place.
     fn place_guard(&mut self, by: Mutator, choice: &mut Choice) -> Rid
-        requires places { HasPlaces self.old.cleaner (machine_of self.old) by }
+        requires places { HasRoomForGuard self.old.cleaner (machine_of self.old) by }
         requires fresh { choice.old.chosen.fresh ≡ [] }
         requires room { length self.old.heap.graph.objects ≤ choice.old.cells }
         requires waits { length self.old.cleaner.waiting ≡ length self.old.heap.graph.objects }

@@ -13,7 +13,7 @@ ghost use Rattle.jlr_machine.specs.Run.{no_choice};
 ghost use Rattle.jlr_machine.specs.WellFormed.{IsWellFormed};
 ghost use Rattle.jlr_resource.specs.Resources.{state_at};
 ghost use Rattle.jlr_event.specs.Events.{answer_in, resource_of_reply, outcome_of, resource_of};
-ghost use Rattle.jlr_state.specs.Events.{StepsBy};
+ghost use Rattle.jlr_state.specs.Events.{StepsMachine};
 ghost use Rattle.jlr_state.specs.Flows.{Conserves, GoesOut, Moves};
 ghost use Rattle.jlr_state.specs.Guards.{HoldsGuard, IsGuardNamed, IsIdleAt, fenced_guard, is_spent_at};
 ghost use Rattle.jlr_state.specs.TakeUps.{IsFreeMutator, clean_answer, handed_out};
@@ -93,7 +93,8 @@ impl<R> State<R> {
     pub fn opened(&mut self, by: Mutator, outcome: Result<R, Fault>) -> Reply<R>
         requires fit { IsWellFormed (machine_of self.old) }
         requires waits { AllWait (machine_of self.old) self.old.cleaner.waiting }
-        ensures entry { StepsBy (machine_of self.old) self.old.heap.marking (Some (Ask.Opened by (outcome_of outcome)))
+        ensures entry { StepsMachine (machine_of self.old) self.old.heap.marking
+            (Some (Ask.Opened by (outcome_of outcome)))
             (answer_in result) no_choice (machine_of self.new) }
         ensures memory { answer_in result ≡ Some (Answer.Refused Refusal.NoMemory) → ⊥ }
         ensures flow { Conserves (resource_of outcome) self.old.cleaner.table (resource_of_reply result)
@@ -269,7 +270,7 @@ impl<R> State<R> {
     /// A call on a file or socket begins: it goes out, and its guard is held.
     pub fn check_out(&mut self, by: Mutator, guard: Handle) -> Reply<R>
         requires { IsWellFormed (machine_of self.old) }
-        ensures entry { StepsBy (machine_of self.old) self.old.heap.marking (Some (Ask.CheckOut by guard))
+        ensures entry { StepsMachine (machine_of self.old) self.old.heap.marking (Some (Ask.CheckOut by guard))
             (answer_in result) no_choice (machine_of self.new) }
         ensures memory { answer_in result ≡ Some (Answer.Refused Refusal.NoMemory) → ⊥ }
         ensures flow { Conserves None self.old.cleaner.table (resource_of_reply result) self.new.cleaner.table }
@@ -305,7 +306,7 @@ impl<R> State<R> {
     /// A call on a file or socket has ended, well or not: it lies here again.
     pub fn check_in(&mut self, by: Mutator, outcome: CallOutcome, resource: R) -> Reply<R>
         requires { IsWellFormed (machine_of self.old) }
-        ensures entry { StepsBy (machine_of self.old) self.old.heap.marking (Some (Ask.CheckIn by outcome))
+        ensures entry { StepsMachine (machine_of self.old) self.old.heap.marking (Some (Ask.CheckIn by outcome))
             (answer_in result) no_choice (machine_of self.new) }
         ensures memory { answer_in result ≡ Some (Answer.Refused Refusal.NoMemory) → ⊥ }
         ensures flow { Conserves (Some resource) self.old.cleaner.table (resource_of_reply result)

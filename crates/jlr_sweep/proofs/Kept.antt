@@ -12,7 +12,7 @@ use Rattle.jlr_machine.specs.Choices.{Choosing, kept_by, pended_by}
 use Rattle.jlr_machine.specs.Collection.{IsFullClearing}
 use Rattle.jlr_machine.specs.WellFormed.{IsWellFormed}
 use Rattle.jlr_roots.specs.Walk.{slots_held, slots_of}
-use Rattle.jlr_laws.specs.Laws.{IsLeast, IsMarked as IsMarkedBy, IsWithinHeap}
+use Rattle.jlr_laws.specs.Laws.{IsLeastMarking, IsFullMarking as IsMarkedBy, IsWithinHeap}
 use Rattle.jlr_laws.proofs.Clearing.{edge_gives, edge_from, in_append, in_option}
 use Rattle.jlr_laws.proofs.Frames.{in_sessions, in_places, no_some, root_from}
 use Rattle.jlr_barrier.proofs.Held.{held_cases}
@@ -81,7 +81,7 @@ module _ (f : Machine) (g : Graph) (rooted : IsRooted f g) where
     same : (x : ℕ) → (kept ∋ x) ≡ is_marked marks x
     same x = kept_is_marked marks (length g.objects) x (omega (arith, long))
 
-    least : IsLeast kept_soft g.objects (roots m) kept
+    least : IsLeastMarking kept_soft g.objects (roots m) kept
     least =
         record {
           holds_base = λ s h. same s ∙ (marked s).1 (s, rooted.all_held s h, [], refl);

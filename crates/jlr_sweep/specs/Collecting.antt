@@ -5,7 +5,7 @@ use Rattle.jlr_machine.specs.Objects.{occupied}
 use Rattle.jlr_machine.specs.Edges.{roots}
 use Rattle.jlr_machine.specs.Collection.{IsFull, after_collection}
 use Rattle.jlr_machine.specs.Choices.{Choosing, collecting}
-use Rattle.jlr_laws.specs.Laws.{IsMarked}
+use Rattle.jlr_laws.specs.Laws.{IsFullMarking}
 
 -- the machine with its cycle closed
 abbrev pub closed : Machine → Machine
@@ -17,7 +17,7 @@ pub record Collects (kept_soft : ℕ → Bool) (m : Machine) (old new : Choosing
   pub kept : List ℕ
   pub pending : List ℕ
   pub chosen : new ≡ collecting old kept pending
-  pub marked : IsMarked kept_soft m.objects (roots m) kept pending
+  pub marked : IsFullMarking kept_soft m.objects (roots m) kept pending
   pub full : IsFull m kept pending
   pub left : n ≡ after_collection m kept pending
   pub counted : occupied n.objects ≡ length kept

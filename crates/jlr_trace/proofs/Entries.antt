@@ -27,7 +27,7 @@ use Rattle.jlr_laws.proofs.Agree.{kept_is_live, narrow, within_after, drop_decid
 use Rattle.jlr_laws.proofs.Empty.{well_formed_within}
 use Rattle.jlr_laws.proofs.Law.{legal_kept}
 use Rattle.jlr_laws.proofs.Paths.{reached_below, reached_complete}
-use Rattle.jlr_histories.specs.Rooms.{Rooms, Fits, HasRoomFor}
+use Rattle.jlr_histories.specs.Rooms.{Rooms, FitsRooms, HasRoomFor}
 use Rattle.jlr_histories.proofs.Fitting.{answers_fit}
 use Rattle.jlr_histories.proofs.Collecting.{new_objects_fit}
 use Rattle.jlr_trace_fields.specs.declared.version.Version.TheVariants.{Two}
@@ -147,7 +147,7 @@ has_room (CheckIn k (GotWrote n)) = tt
 has_room (CheckIn k (GotFailed fault)) = tt
 has_room ask = tt
 
-answer_fits : (a : Answer) → AnswerRange a → Fits room a → AnswerFits a
+answer_fits : (a : Answer) → AnswerRange a → FitsRooms room a → AnswerFits a
 answer_fits (Names x) range few = record { count = omega (arith, few); each = range }
 answer_fits (Notes x) range few = record { count = omega (arith, few); each = range }
 answer_fits (Faults x) range few = record { count = omega (arith, few); each = range }

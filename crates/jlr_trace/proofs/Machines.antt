@@ -25,7 +25,7 @@ use Rattle.jlr_trace.specs.declared.file.TraceFile.{TraceFile}
 use Rattle.jlr_trace.specs.Files.{image_of}
 use Rattle.jlr_machine.specs.declared.entry.Entry.{Entry}
 use Rattle.jlr_trace_entries.specs.Images.{listed_from, placed, held, session_text, SessionFits, ImageFits, HasShape, HasPlaces, image_text}
-use Rattle.jlr_trace.specs.Ranges.{SeatRange, SessionRange, MachineRange, AreLimits}
+use Rattle.jlr_trace.specs.Ranges.{SeatRange, SessionRange, MachineRange, LimitsInRange}
 use Rattle.jlr_trace.proofs.ListLengths.{short, rises}
 use Rattle.jlr_trace.proofs.Workers.{few_jobs, few_resources}
 use Rattle.jlr_trace.proofs.Tables.{table_fits, handles_fit}
@@ -115,7 +115,7 @@ module _ (m : Machine) (w : IsWellFormed m) where
 
   -- ---- The image
 
-  module _ (base : ℕ) (entries : List Entry) (bound : base < 2 ^ 64) (limits : AreLimits m) (range : MachineRange m) where
+  module _ (base : ℕ) (entries : List Entry) (bound : base < 2 ^ 64) (limits : LimitsInRange m) (range : MachineRange m) where
     abbrev the_file : TraceFile
     the_file = record { version = Two; base = base; image = m; strays = []; entries = entries }
 

@@ -23,7 +23,7 @@ use Rattle.jlr_trace.specs.declared.window.StreamFault.{StreamFault}
 use Rattle.jlr_trace.specs.declared.window.StreamFault.TheVariants.{Unread, Damaged}
 use Rattle.jlr_trace.specs.Files.{FileText, file_text, spelled_file, HasSpelling, mark, ◌>>>◌, in_entry, mark_read, entries_read}
 use Rattle.jlr_trace.specs.Files.{front_read, file_read, FileFails}
-use Rattle.jlr_trace.specs.Streams.{HeadingText, heading_text, heading_read, end_read, entries_left, behind_entry, with_entries, Held}
+use Rattle.jlr_trace.specs.Streams.{HeadingText, heading_text, heading_read, end_read, entries_left, behind_entry, with_entries, HeldBytes}
 use Rattle.jlr_trace.specs.Streams.{known, Coming, coming, NoneComes, AreBytes, ReadsOn, FailsOn, ComesFirst, Comes, IsReadAs}
 use Rattle.jlr_trace.specs.Streams.{SpellsWhatComes, history, AreSoMany}
 use Rattle.jlr_trace.proofs.FileLaws.{step_ok, field_ok, good_is, mark_takes, mark_fits, file_takes}
@@ -102,7 +102,7 @@ end_fails version number left (Damaged d) (Some bytes) none fails =
     subst (λ (r : Result (List Entry) TraceFault). FileFails d r) same fails
 
 -- what is found behind the last entry
-pub ends_there : (version : Version) (passed left : ℕ) (held : Held) (old : Coming) (result : Result (Unit {0}) StreamFault)
+pub ends_there : (version : Version) (passed left : ℕ) (held : HeldBytes) (old : Coming) (result : Result (Unit {0}) StreamFault)
     → coming version (passed + 1) left held ≡ old → old.left ≡ 0
     → OnOk result (IsAtEnd (known held)) → OnOk result (NoneComes old.entries)
 ends_there version passed left held old (Ok u) is none end =
@@ -110,12 +110,12 @@ ends_there version passed left held old (Ok u) is none end =
     (ap (λ (o : Coming). o.left) is ∙ none) end)
 ends_there version passed left held old (Err f) is none end = tt
 
-pub rest_ends : (version : Version) (number left : ℕ) (held : Held) (old : Coming) (result : Result (Unit {0}) StreamFault)
+pub rest_ends : (version : Version) (number left : ℕ) (held : HeldBytes) (old : Coming) (result : Result (Unit {0}) StreamFault)
     → coming version number left held ≡ old → OnOk result (IsAtEnd (known held)) → OnOk result (IsAtEnd old.rest)
 rest_ends version number left held old (Ok u) is end = subst (λ (o : Coming). IsAtEnd o.rest) is end
 rest_ends version number left held old (Err f) is end = tt
 
-pub goes_on_there : (version : Version) (passed number left : ℕ) (held : Held) (old : Coming) (result : Result (Unit {0}) StreamFault)
+pub goes_on_there : (version : Version) (passed number left : ℕ) (held : HeldBytes) (old : Coming) (result : Result (Unit {0}) StreamFault)
     → coming version (passed + 1) left held ≡ old → old.left ≡ 0 → number ≡ passed + 1
     → IfErr result (λ f. FailsOn f (option_map (end_read number) (known held))) → IfErr result (λ f. FailsOn f old.entries)
 goes_on_there version passed number left held old (Ok u) is none follows fails = tt
@@ -156,7 +156,7 @@ comes_first version number left e None rest reads = tt
 comes_first version number left e (Some bytes) None reads = absurd reads
 comes_first version number left e (Some bytes) (Some rest) reads = first_left version number left bytes e rest reads
 
-first_comes : (version : Version) (number next left fewer : ℕ) (e : Entry) (held new : Held) → next ≡ suc number → left ≡ suc fewer
+first_comes : (version : Version) (number next left fewer : ℕ) (e : Entry) (held new : HeldBytes) → next ≡ suc number → left ≡ suc fewer
     → ReadsOn (λ bytes. in_entry number (entry_read version bytes)) e (known held) (known new) → AreBytes (known held) (known new)
     → Comes e (coming version number left held) (coming version next fewer new)
 first_comes version number next left fewer e held new follows some reads bytes = record {
@@ -166,7 +166,7 @@ first_comes version number next left fewer e held new follows some reads bytes =
 }
 
 -- an entry is read as the first of those to come
-pub comes_next : (version : Version) (passed left : ℕ) (e : Entry) (held new : Held) (old : Coming)
+pub comes_next : (version : Version) (passed left : ℕ) (e : Entry) (held new : HeldBytes) (old : Coming)
     → coming version (passed + 1) left held ≡ old → 0 < old.left
     → ReadsOn (λ bytes. in_entry (passed + 1) (entry_read version bytes)) e (known held) (known new) → AreBytes (known held) (known new)
     → Comes e old (coming version ((passed + 1) + 1) (left - 1) new)
@@ -192,7 +192,7 @@ first_fails version number left (Damaged BadMark) (Some bytes) fails = entry_los
 first_fails version number left (Damaged BadVersion) (Some bytes) fails = entry_lost version number left BadVersion bytes fails
 first_fails version number left (Damaged (BadEntry k)) (Some bytes) fails = entry_lost version number left (BadEntry k) bytes fails
 
-pub next_fails : (version : Version) (passed left : ℕ) (f : StreamFault) (held : Held) (old : Coming)
+pub next_fails : (version : Version) (passed left : ℕ) (f : StreamFault) (held : HeldBytes) (old : Coming)
     → coming version (passed + 1) left held ≡ old → 0 < old.left
     → FailsOn f (option_map (λ bytes. in_entry (passed + 1) (entry_read version bytes)) (known held)) → FailsOn f old.entries
 next_fails version passed left f held old is some fails =
@@ -234,7 +234,7 @@ are_so_many : (version : Version) (number left : ℕ) (all : Option (List ℕ))
 are_so_many version number left None = tt
 are_so_many version number left (Some bytes) = many_or_fault version number left bytes (entries_left version number left bytes) refl
 
-pub so_many_come : (version : Version) (number count : ℕ) (held : Held) (entries : Coming) → entries ≡ coming version number count held
+pub so_many_come : (version : Version) (number count : ℕ) (held : HeldBytes) (entries : Coming) → entries ≡ coming version number count held
     → AreSoMany count entries.entries
 so_many_come version number count held entries is =
     subst (λ (c : Coming). AreSoMany count c.entries) (sym is) (are_so_many version number count (known held))
@@ -308,7 +308,7 @@ nothing_held None = refl
 nothing_held (Some bytes) = refl
 
 -- a stream of which nothing was read is read as its head, and as what comes behind
-pub is_read_as : (all : Option (List ℕ)) (start new : Held) (h t : HeadingText) (entries : Coming)
+pub is_read_as : (all : Option (List ℕ)) (start new : HeldBytes) (h t : HeadingText) (entries : Coming)
     → start ≡ record { front = []; behind = all } → t ≡ h → entries ≡ coming h.version 1 h.count new
     → ReadsOn heading_read h (known start) (known new) → IsReadAs t.version t.image all entries.entries
 is_read_as all start new h t entries nothing same is reads =
@@ -317,7 +317,7 @@ is_read_as all start new h t entries nothing same is reads =
     subst (λ (u : HeadingText). IsReadAs u.version u.image all entries.entries) (sym same)
     (subst (λ (c : Coming). IsReadAs h.version h.image all c.entries) (sym is) (read_as h all (known new) first))
 
-pub bytes_come : (all : Option (List ℕ)) (start new : Held) (version : Version) (number left : ℕ) (entries : Coming)
+pub bytes_come : (all : Option (List ℕ)) (start new : HeldBytes) (version : Version) (number left : ℕ) (entries : Coming)
     → start ≡ record { front = []; behind = all } → entries ≡ coming version number left new
     → AreBytes (known start) (known new) → AreBytes all entries.rest
 bytes_come all start new version number left entries nothing is bytes =
@@ -337,7 +337,7 @@ file_fails (Damaged BadMark) (Some bytes) fails = heading_lost BadMark bytes fai
 file_fails (Damaged BadVersion) (Some bytes) fails = heading_lost BadVersion bytes fails
 file_fails (Damaged (BadEntry k)) (Some bytes) fails = heading_lost (BadEntry k) bytes fails
 
-pub stream_fails : (all : Option (List ℕ)) (start : Held) (f : StreamFault) → start ≡ record { front = []; behind = all }
+pub stream_fails : (all : Option (List ℕ)) (start : HeldBytes) (f : StreamFault) → start ≡ record { front = []; behind = all }
     → FailsOn f (option_map heading_read (known start)) → FailsOn f (option_map file_read all)
 stream_fails all start f nothing fails =
     file_fails f all (subst (λ (a : Option (List ℕ)). FailsOn f (option_map heading_read a)) (ap known nothing ∙ nothing_held all) fails)

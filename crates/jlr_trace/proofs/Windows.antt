@@ -10,7 +10,7 @@ use Rattle.jlr_trace.specs.declared.window.StreamFault.{StreamFault}
 use Rattle.jlr_trace.specs.declared.window.StreamFault.TheVariants.{Unread, Damaged}
 use Rattle.jlr_trace_fields.specs.Spelling.{IsBytes}
 use Rattle.jlr_trace.specs.Files.{FileFails}
-use Rattle.jlr_trace.specs.Streams.{Held, known, AreBytes, ReadsOn, FailsOn, IsLast}
+use Rattle.jlr_trace.specs.Streams.{HeldBytes, known, AreBytes, ReadsOn, FailsOn, IsLast}
 use Rattle.jlr_trace.proofs.Stillness.{Still, IsStill}
 
 -- ---- Pieces
@@ -68,10 +68,11 @@ bytes_before (Some bytes) front (Some xs) count kept fits =
     λ rest. subst IsBytes kept (bytes_joined front xs fits (bytes_behind (drop count front) xs rest))
 
 -- the bytes that were used are bytes, since they were read
-pub bytes_used : (start : Option (List ℕ)) (held new : Held) (bytes : List ℕ) (count : ℕ) → Keeps start (known held) → bytes ≡ held.front
+pub bytes_used : (start : Option (List ℕ)) (held new : HeldBytes) (bytes : List ℕ) (count : ℕ) → Keeps start (known held) → bytes
+    ≡ held.front
     → IsBytes bytes → new ≡ record { front = drop count held.front; behind = held.behind } → AreBytes start (known new)
 bytes_used start held new bytes count kept is fits advanced =
-    subst (λ (h : Held). AreBytes start (known h)) (sym advanced)
+    subst (λ (h : HeldBytes). AreBytes start (known h)) (sym advanced)
     (bytes_before start held.front held.behind count kept (subst IsBytes is fits))
 
 module _ {A : Type 0} (read : List ℕ → Result (A × List ℕ) TraceFault) (still : IsStill read) where
@@ -110,19 +111,19 @@ module _ {A : Type 0} (read : List ℕ → Result (A × List ℕ) TraceFault) (s
       subst (λ (b : List ℕ). FileFails fault (read b)) kept (fails_all fault front (Some xs) e end)
 
   -- the same of what a stream holds, of which so many bytes are used
-  pub used_on : (start : Option (List ℕ)) (x : A) (held new : Held) (bytes : List ℕ) (count : ℕ) → Keeps start (known held)
+  pub used_on : (start : Option (List ℕ)) (x : A) (held new : HeldBytes) (bytes : List ℕ) (count : ℕ) → Keeps start (known held)
       → bytes ≡ held.front → new ≡ record { front = drop count held.front; behind = held.behind }
       → read bytes ≡ Ok (x, drop count bytes) → ReadsOn read x start (known new)
   used_on start x held new bytes count kept is advanced e =
       let here : read held.front ≡ Ok (x, drop count held.front) = subst (λ (b : List ℕ). read b ≡ Ok (x, drop count b)) is e in
-      subst (λ (h : Held). ReadsOn read x start (known h)) (sym advanced)
+      subst (λ (h : HeldBytes). ReadsOn read x start (known h)) (sym advanced)
       (reads_on start x held.front (drop count held.front) held.behind kept here)
 
   no_memory : (start : Option (List ℕ)) → FailsOn (Damaged NoMemory) (option_map read start)
   no_memory None = tt
   no_memory (Some bytes) = tt
 
-  pub last_on : (start : Option (List ℕ)) (fault : TraceFault) (last : StreamFault) (held : Held) (bytes : List ℕ)
+  pub last_on : (start : Option (List ℕ)) (fault : TraceFault) (last : StreamFault) (held : HeldBytes) (bytes : List ℕ)
       → Keeps start (known held) → bytes ≡ held.front → FileFails fault (read bytes) → IsLast fault held last
       → FailsOn last (option_map read start)
   last_on start fault (Unread kind) held bytes kept is e last = tt

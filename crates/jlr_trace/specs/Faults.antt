@@ -55,7 +55,7 @@ pub record FailsInHead (fault : Fault) (bytes : List ℕ) : Type 0 where
       × (number_at w64 rest ≡ Err fault))
 
 -- a mark, an image and a count, and entries: all are spelled there, and these bytes stand behind them
-pub record Begins (version : Version) (count : ℕ) (entries : List Entry) (rest bytes : List ℕ) : Type 0 where
+pub record BeginsFile (version : Version) (count : ℕ) (entries : List Entry) (rest bytes : List ℕ) : Type 0 where
   pub image : ImageText
   pub fits : ImageFits version image
   pub entries_fit : AllByRecursion (EntryFits version) entries
@@ -68,18 +68,18 @@ pub record FailsInEntry (fault : Fault) (number : ℕ) (bytes : List ℕ) : Type
   pub count : ℕ
   pub entries : List Entry
   pub rest : List ℕ
-  pub begins : Begins version count entries rest bytes
+  pub begins : BeginsFile version count entries rest bytes
   pub more : length entries < count
   pub fails : entry_read version rest ≡ Err fault
   pub numbered : number ≡ suc (length entries)
 
 -- all entries are spelled, and bytes stand behind them
-pub record GoesOn (number : ℕ) (bytes : List ℕ) : Type 0 where
+pub record GoesOnBehind (number : ℕ) (bytes : List ℕ) : Type 0 where
   pub version : Version
   pub count : ℕ
   pub entries : List Entry
   pub rest : List ℕ
-  pub begins : Begins version count entries rest bytes
+  pub begins : BeginsFile version count entries rest bytes
   pub all : length entries ≡ count
   pub some : rest ≢ []
   pub numbered : number ≡ suc count
@@ -90,5 +90,5 @@ IsFault BadMark bytes = LeavesMark bytes
 IsFault BadVersion bytes = HasNoVersion bytes
 IsFault Truncated bytes = EndsInMark bytes ⊎ FailsInHead Short bytes ⊎ ((number : ℕ) × FailsInEntry Short number bytes)
 IsFault (BadEntry number) bytes = ((number ≡ 0) × FailsInHead Range bytes) ⊎ FailsInEntry Range number bytes
-    ⊎ GoesOn number bytes
+    ⊎ GoesOnBehind number bytes
 IsFault NoMemory bytes = Unit {0}

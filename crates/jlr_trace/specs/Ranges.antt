@@ -102,7 +102,7 @@ pub record EntryRange (e : Entry) : Type 0 where
 -- ---- Limits
 
 -- the numbers of cells, mutators and resources are at least those that a trace file can tell, and resources at most
-pub record AreLimits (m : Machine) : Type 0 where
+pub record LimitsInRange (m : Machine) : Type 0 where
   pub cells : 16 ≤ length m.objects
   pub sessions : 1 ≤ length m.mutators
   pub some_resources : 1 ≤ m.resource_limit

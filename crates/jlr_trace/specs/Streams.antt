@@ -21,12 +21,12 @@ use Rattle.jlr_trace.specs.Files.{entries_read, file_read, FileFails}
 -- ---- Bytes
 
 -- bytes that are held, and those behind them
-pub record Held : Type 0 where
+pub record HeldBytes : Type 0 where
   pub front : List ℕ
   pub behind : Option (List ℕ)
 
 -- all of them
-abbrev pub known : Held → Option (List ℕ)
+abbrev pub known : HeldBytes → Option (List ℕ)
 known h = prepend_known h.front h.behind
 
 -- bytes were read behind others, if there were any
@@ -38,7 +38,7 @@ pub record MoreIsRead (front : List ℕ) (behind : Option (List ℕ)) (new_front
   pub some : any ≡ true → 0 < length piece
   pub ended : any ≡ false → (piece ≡ []) × IsAtEnd new_behind
 
-abbrev pub Fills : Held → Held → Bool → Type 0
+abbrev pub Fills : HeldBytes → HeldBytes → Bool → Type 0
 Fills old new any = MoreIsRead old.front old.behind new.front new.behind any
 
 -- ---- Reading from them
@@ -62,7 +62,7 @@ FailsOn (Damaged fault) None = Unit {0}
 FailsOn (Damaged fault) (Some read) = FileFails fault read
 
 -- this fault of bytes that are held is that of all, or memory ran out; where bytes are missing, none are behind
-abbrev pub IsLast : TraceFault → Held → StreamFault → Type 0
+abbrev pub IsLast : TraceFault → HeldBytes → StreamFault → Type 0
 IsLast fault held (Unread kind) = Unit {0}
 IsLast fault held (Damaged last) = (last ≡ NoMemory) ⊎ ((last ≡ fault) × (fault ≡ Truncated → IsAtEnd held.behind))
 
@@ -115,7 +115,7 @@ pub record Coming : Type 0 where
   pub entries : Option (Result (List Entry) TraceFault)
   pub rest : Option (List ℕ)
 
-abbrev pub coming : Version → ℕ → ℕ → Held → Coming
+abbrev pub coming : Version → ℕ → ℕ → HeldBytes → Coming
 coming version number left held =
     record { left = left; entries = option_map (entries_left version number left) (known held); rest = known held }
 

@@ -2,7 +2,7 @@
 ghost use Rattle.std.specs.Prelude.{◌≡◌, ◌≢◌, ◌≤◌, ◌<◌, ◌++◌, [], false, length, drop, take, IfOk, IfErr, OnOk};
 ghost use Rattle.std.specs.Io.KnownBytes.{Consumes, IsAtEnd};
 ghost use Rattle.jlr_trace_fields.specs.Spelling.{IsBytes};
-ghost use Rattle.jlr_trace.specs.Streams.{Held, Fills, MoreIsRead, IsOutside};
+ghost use Rattle.jlr_trace.specs.Streams.{HeldBytes, Fills, MoreIsRead, IsOutside};
 ghost use Rattle.jlr_trace.specs.declared.window.StreamFault.TheVariants.{Damaged};
 ghost use Rattle.jlr_trace.specs.declared.file.TraceFault.TheVariants.{NoMemory};
 
@@ -52,7 +52,7 @@ pub(crate) struct Window<R: Read> {
 }
 
 impl<R: Read> Model for Window<R> {
-    ghost Value = { Held };
+    ghost Value = { HeldBytes };
 
     ghost view = { λ w. record { front = drop w.used w.bytes.items; behind = R.remaining w.reader } };
 

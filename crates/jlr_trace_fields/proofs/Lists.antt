@@ -11,7 +11,7 @@ use Rattle.jlr_trace_fields.specs.declared.fault.Fault.TheVariants.{Short}
 use Rattle.jlr_trace_fields.specs.Reading.{Reader, ◌>>=◌, number_at}
 use Rattle.jlr_trace_fields.specs.Spelling.{spelled_32, IsBytes}
 use Rattle.jlr_trace_fields.specs.Items.{items_at, list_at, spelled_list, IsListed}
-use Rattle.jlr_trace_fields.specs.Laws.{Takes, TakesSpelled, ReadsAgain, IsField, IsLeast}
+use Rattle.jlr_trace_fields.specs.Laws.{Takes, TakesSpelled, ReadsAgain, IsField, IsShortest}
 use Rattle.jlr_trace_fields.proofs.Steps.{bind_ok, ok_is, Takes-then}
 use Rattle.jlr_trace_fields.proofs.Numbers.{four_bytes}
 
@@ -54,7 +54,7 @@ items_again read spelled Fits law (x ∷ xs) rest fits =
     rw (law x (flat_map spelled xs ++ rest) fits.0, items_again read spelled Fits law xs rest fits.1) refl
 
 -- the items of a list take at least so many bytes
-pub items_long : {A : Type 0} (least : ℕ) (spelled : A → List ℕ) (Fits : A → Type 0) → IsLeast least spelled Fits
+pub items_long : {A : Type 0} (least : ℕ) (spelled : A → List ℕ) (Fits : A → Type 0) → IsShortest least spelled Fits
     → (xs : List A) → AllByRecursion Fits xs → length xs * least ≤ length (flat_map spelled xs)
 items_long least spelled Fits law [] fits = omega arith
 items_long least spelled Fits law (x ∷ xs) fits =
@@ -82,7 +82,7 @@ list_takes {A} least read spelled Fits law bytes xs rest fits e =
     subst (λ (k : ℕ). Takes bytes (spelled_32 k ++ flat_map spelled xs) rest) (sym second.1) both in
     (whole, record { count = omega (arith, second.1, first.1); each = second.2 })
 
-pub list_again : {A : Type 0} (least : ℕ) (read : Reader A) (spelled : A → List ℕ) (Fits : A → Type 0) → IsLeast least spelled Fits
+pub list_again : {A : Type 0} (least : ℕ) (read : Reader A) (spelled : A → List ℕ) (Fits : A → Type 0) → IsShortest least spelled Fits
     → ReadsAgain read spelled Fits
     → ReadsAgain (list_at least read) (spelled_list spelled) (IsListed Fits)
 unfolding list_at
@@ -99,6 +99,6 @@ list_again {A} least read spelled Fits least_law law xs rest fits =
     ) refl
 
 pub list_field : {A : Type 0} {least : ℕ} {read : Reader A} {spelled : A → List ℕ} {Fits : A → Type 0} → IsField read spelled Fits
-    → IsLeast least spelled Fits → IsField (list_at least read) (spelled_list spelled) (IsListed Fits)
+    → IsShortest least spelled Fits → IsField (list_at least read) (spelled_list spelled) (IsListed Fits)
 list_field {A} {least} {read} {spelled} {Fits} field few =
     record { takes = list_takes least read spelled Fits field.takes; again = list_again least read spelled Fits few field.again }

@@ -8,7 +8,7 @@ use Rattle.std.proofs.lemmas.Nat.{from_be_bytes-to_be_bytes_8}
 use Rattle.jlr_trace_fields.specs.declared.fault.Fault.TheVariants.{Short}
 use Rattle.jlr_trace_fields.specs.Reading.{number_at}
 use Rattle.jlr_trace_fields.specs.Spelling.{spelled_16, spelled_32, spelled_64, IsBytes}
-use Rattle.jlr_trace_fields.specs.Laws.{TakesSpelled, ReadsAgain, IsField, IsLeast}
+use Rattle.jlr_trace_fields.specs.Laws.{TakesSpelled, ReadsAgain, IsField, IsShortest}
 use Rattle.jlr_trace_fields.proofs.Steps.{IsBytes-drop, IsBytes-take, guard_ok}
 
 pub record IsWide (w : Width) (limit : ℕ) : Type 0 where
@@ -78,5 +78,5 @@ four_bytes = number_field w32 (2 ^ 32) wide32
 pub eight_bytes : IsField (number_at w64) spelled_64 (λ n. n < 2 ^ 64)
 eight_bytes = number_field w64 (2 ^ 64) wide64
 
-pub four_least : IsLeast 4 spelled_32 (λ n. n < 2 ^ 32)
+pub four_least : IsShortest 4 spelled_32 (λ n. n < 2 ^ 32)
 four_least n fits = omega arith

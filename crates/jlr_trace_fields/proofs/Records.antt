@@ -19,7 +19,7 @@ use Rattle.jlr_trace_fields.specs.declared.version.Version.{Version}
 use Rattle.jlr_trace_fields.specs.Reading.{Reader, ◌>>=◌, text_at, is_name_byte}
 use Rattle.jlr_trace_fields.specs.Spelling.{spelled_8, spelled_32, spelled_64, spelled_text}
 use Rattle.jlr_trace_fields.specs.Items.{may_follow}
-use Rattle.jlr_trace_fields.specs.Laws.{TakesBehind, TakesSpelled, ReadsAgain, IsField, IsLeast, FollowsWith, IsRisingField}
+use Rattle.jlr_trace_fields.specs.Laws.{TakesBehind, TakesSpelled, ReadsAgain, IsField, IsShortest, FollowsWith, IsRisingField}
 use Rattle.jlr_trace_fields.proofs.Numbers.{four_bytes, eight_bytes}
 use Rattle.jlr_trace_fields.proofs.Basics.{byte, text}
 use Rattle.jlr_trace_fields.proofs.Products.{then_takes, made_takes, one_takes, two_takes, then_again, one_again, two_again}
@@ -38,7 +38,7 @@ use Rattle.jlr_trace_fields.proofs.Objects.{work, object}
 pub name : IsField (text_at 1 32 is_name_byte) spelled_text NameFits
 name = text 1 32 is_name_byte
 
-pub name_least : IsLeast 2 spelled_text NameFits
+pub name_least : IsShortest 2 spelled_text NameFits
 name_least n fits = omega (arith, fits.0.0)
 
 -- ---- Bindings and failures
@@ -58,7 +58,7 @@ binding_again b rest fits = two_again name four_bytes made_binding b.name b.slot
 pub binding : IsField binding_read spelled_binding BindingFits
 binding = record { takes = binding_takes; again = binding_again }
 
-pub binding_least : IsLeast 6 spelled_binding BindingFits
+pub binding_least : IsShortest 6 spelled_binding BindingFits
 binding_least b fits = omega (arith, length-append (spelled_text b.name) (spelled_32 b.slot), fits.name.0.0)
 
 abbrev made_failure : ℕ → DeviceFault → Failure
@@ -75,7 +75,7 @@ failure_again f rest fits = two_again eight_bytes fault made_failure f.action f.
 pub failure : IsField failure_read spelled_failure FailureFits
 failure = record { takes = failure_takes; again = failure_again }
 
-pub failure_least : IsLeast 9 spelled_failure FailureFits
+pub failure_least : IsShortest 9 spelled_failure FailureFits
 failure_least f fits = omega arith
 
 -- ---- Calls
@@ -174,7 +174,7 @@ work_length : (w : Work) → length (spelled_work w) ≡ 5
 work_length (Note n) = refl
 work_length (WorkOn rid) = refl
 
-pub job_least : IsLeast 14 spelled_job JobFits
+pub job_least : IsShortest 14 spelled_job JobFits
 job_least job fits = omega (
   arith,
   length-append (spelled_64 job.action ++ spelled_work job.work) (spelled_8 job.by),
@@ -201,7 +201,7 @@ resource_again before r rest fits = keyed_again four_bytes resource_behind befor
 pub rising_resource : IsRisingField resource_after spelled_resource ResourceFits (λ r. r.rid)
 rising_resource = record { field = λ before. record { takes = resource_takes before; again = resource_again before } }
 
-pub resource_least : IsLeast 13 spelled_resource ResourceFits
+pub resource_least : IsShortest 13 spelled_resource ResourceFits
 resource_least r fits = omega arith
 
 -- objects and their slots
@@ -235,7 +235,7 @@ object_least Cleaner = omega arith
 object_least (Cleanable c) = omega arith
 object_least (Guard g) = omega arith
 
-pub placed_least : (version : Version) → IsLeast 5 spelled_placed (PlacedFits version)
+pub placed_least : (version : Version) → IsShortest 5 spelled_placed (PlacedFits version)
 placed_least version p fits = omega (arith, length-append (spelled_32 p.slot) (spelled_object p.object), object_least p.object)
 
 -- handles and the slots that they name
@@ -256,5 +256,5 @@ held_again before h rest fits = keyed_again byte held_behind before h.handle fit
 pub rising_held : IsRisingField held_after spelled_held HeldFits (λ h. h.handle)
 rising_held = record { field = λ before. record { takes = held_takes before; again = held_again before } }
 
-pub held_least : IsLeast 5 spelled_held HeldFits
+pub held_least : IsShortest 5 spelled_held HeldFits
 held_least h fits = omega arith

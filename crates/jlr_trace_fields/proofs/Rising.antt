@@ -10,7 +10,7 @@ use Rattle.jlr_trace_fields.specs.declared.fault.Fault.TheVariants.{Short}
 use Rattle.jlr_trace_fields.specs.Reading.{Reader, ◌>>=◌, number_at}
 use Rattle.jlr_trace_fields.specs.Spelling.{spelled_32, IsBytes}
 use Rattle.jlr_trace_fields.specs.Items.{rising_items_at, rising_at, spelled_list, Rises, IsRising}
-use Rattle.jlr_trace_fields.specs.Laws.{Takes, TakesSpelled, ReadsAgain, IsField, IsRisingField, IsLeast}
+use Rattle.jlr_trace_fields.specs.Laws.{Takes, TakesSpelled, ReadsAgain, IsField, IsRisingField, IsShortest}
 use Rattle.jlr_trace_fields.proofs.Steps.{bind_ok, ok_is, Takes-then}
 use Rattle.jlr_trace_fields.proofs.Numbers.{four_bytes}
 use Rattle.jlr_trace_fields.proofs.Lists.{guard_not, items_long}
@@ -66,7 +66,7 @@ rising_takes {A} least read spelled Fits key law bytes xs rest fits e =
     (whole, record { listed = record { count = omega (arith, second.1, first.1); each = second.2 }; rises = second.3 })
 
 rising_again : {A : Type 0} (least : ℕ) (read : Option ℕ → Reader A) (spelled : A → List ℕ) (Fits : A → Type 0) (key : A → ℕ)
-    → IsLeast least spelled Fits → IsRisingField read spelled Fits key
+    → IsShortest least spelled Fits → IsRisingField read spelled Fits key
     → ReadsAgain (rising_at least read key) (spelled_list spelled) (IsRising Fits key)
 unfolding rising_at
 rising_again least read spelled Fits key few law xs rest fits =
@@ -82,7 +82,7 @@ rising_again least read spelled Fits key few law xs rest fits =
     ) refl
 
 pub rising_field : {A : Type 0} {least : ℕ} {read : Option ℕ → Reader A} {spelled : A → List ℕ} {Fits : A → Type 0} {key : A → ℕ}
-    → IsRisingField read spelled Fits key → IsLeast least spelled Fits
+    → IsRisingField read spelled Fits key → IsShortest least spelled Fits
     → IsField (rising_at least read key) (spelled_list spelled) (IsRising Fits key)
 rising_field {A} {least} {read} {spelled} {Fits} {key} law few =
     record { takes = rising_takes least read spelled Fits key law; again = rising_again least read spelled Fits key few law }

@@ -28,8 +28,8 @@ pub record IsField {A : Type 0} (read : Reader A) (spelled : A → List ℕ) (Fi
   pub again : ReadsAgain read spelled Fits
 
 -- none is spelled by fewer bytes
-abbrev pub IsLeast : {A : Type 0} → ℕ → (A → List ℕ) → (A → Type 0) → Type 0
-IsLeast {A} least spelled Fits = (x : A) → Fits x → least ≤ length (spelled x)
+abbrev pub IsShortest : {A : Type 0} → ℕ → (A → List ℕ) → (A → Type 0) → Type 0
+IsShortest {A} least spelled Fits = (x : A) → Fits x → least ≤ length (spelled x)
 
 -- the same of an item that is read with the key before it in hand
 abbrev pub FollowsWith : {A : Type 0} → (A → Type 0) → (A → ℕ) → Option ℕ → A → Type 0

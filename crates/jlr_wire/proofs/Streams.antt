@@ -5,9 +5,9 @@ use Rattle.std.proofs.lemmas.List.{append-nil, take_all, take_at, take-append-le
 use Rattle.std.proofs.lemmas.List.Elements.{All-nil, All-append, All-push}
 use Rattle.std.proofs.lemmas.Grind.{flat_map-append}
 use Rattle.std.proofs.lemmas.Bool.{cases_lt, le-ltb, lt-ltb}
-use Rattle.jlr_wire.specs.Lines.{Held, begun, nothing_held, AreLines, IsInLine, ended_lines}
-use Rattle.jlr_wire.specs.Feeding.{Continues, Ends, Feeds}
-use Rattle.jlr_wire.specs.Stream.{Call, Follow, Reads, Shown, shown, shown_by_call, shown_by_calls, used_bytes, held_after}
+use Rattle.jlr_wire.specs.Lines.{HeldLine, begun, nothing_held, AreLines, IsInLine, ended_lines}
+use Rattle.jlr_wire.specs.Feeding.{Continues, EndsHeldLine, Feeds}
+use Rattle.jlr_wire.specs.Stream.{Call, Follow, ReadsLines, Shown, shown, shown_by_call, shown_by_calls, used_bytes, held_after}
 use Rattle.jlr_wire.specs.declared.pieces.Got.{Got}
 use Rattle.jlr_wire.specs.declared.pieces.Got.TheVariants.{More, Line, TooLong}
 
@@ -21,7 +21,7 @@ take_twice n xs ys = elim (cases_lt n (length xs)) [
 ]
 
 -- nothing read yet
-pub reads_none : Reads [] [] nothing_held
+pub reads_none : ReadsLines [] [] nothing_held
 reads_none = record {
   lines = [];
   last = [];
@@ -30,14 +30,14 @@ reads_none = record {
   holds = refl;
 }
 
-begun_open : (held : Held) → held.ended ≡ false → begun held ≡ held.bytes
+begun_open : (held : HeldLine) → held.ended ≡ false → begun held ≡ held.bytes
 begun_open held e = rw e refl
 
-begun_ended : (held : Held) → held.ended ≡ true → begun held ≡ []
+begun_ended : (held : HeldLine) → held.ended ≡ true → begun held ≡ []
 begun_ended held e = rw e refl
 
 -- the line goes on
-pub line_goes_on : (done last : List ℕ) (lines : List (List ℕ)) (old : Held) (bytes : List ℕ) (used : ℕ) (new : Held)
+pub line_goes_on : (done last : List ℕ) (lines : List (List ℕ)) (old : HeldLine) (bytes : List ℕ) (used : ℕ) (new : HeldLine)
     → AreLines done lines last → begun old ≡ take 513 last → Continues old bytes used new
     → AreLines (done ++ take used bytes) lines (last ++ bytes) × (begun new ≡ take 513 (last ++ bytes))
 line_goes_on done last lines old bytes used new are holds h =
@@ -50,8 +50,8 @@ line_goes_on done last lines old bytes used new are holds h =
       begun_open new h.under_way ∙ h.held ∙ ap (λ xs. take 513 (xs ++ bytes)) holds ∙ take_twice 513 last bytes,
     )
 
-reads_on : (done : List ℕ) (seen : List Shown) (old : Held) (bytes : List ℕ) (used : ℕ) (new : Held)
-    → Reads done seen old → Continues old bytes used new → Reads (done ++ take used bytes) (seen ++ []) new
+reads_on : (done : List ℕ) (seen : List Shown) (old : HeldLine) (bytes : List ℕ) (used : ℕ) (new : HeldLine)
+    → ReadsLines done seen old → Continues old bytes used new → ReadsLines (done ++ take used bytes) (seen ++ []) new
 reads_on done seen old bytes used new r h =
     let on = line_goes_on done r.last r.lines old bytes used new r.are r.holds h in
     record { lines = r.lines; last = r.last ++ bytes; are = on.0; shows = append-nil seen ∙ r.shows; holds = on.1 }
@@ -79,8 +79,9 @@ one_line_more lines last front done e =
     ) refl
 
 -- a line ends
-pub line_ends : (fits : ℕ → Type 0) (done last : List ℕ) (lines : List (List ℕ)) (old : Held) (bytes : List ℕ) (used : ℕ) (new : Held)
-    → AreLines done lines last → begun old ≡ take 513 last → (h : Ends fits old bytes used new)
+pub line_ends : (fits : ℕ → Type 0) (done last : List ℕ) (lines : List (List ℕ)) (old : HeldLine) (bytes : List ℕ) (used : ℕ)
+    (new : HeldLine)
+    → AreLines done lines last → begun old ≡ take 513 last → (h : EndsHeldLine fits old bytes used new)
     → AreLines (done ++ take used bytes) (lines ++ (last ++ h.front) ∷ []) []
     × IsInLine (last ++ h.front) × (new.bytes ≡ take 513 (last ++ h.front)) × (begun new ≡ [])
 line_ends fits done last lines old bytes used new are holds h =
@@ -96,9 +97,10 @@ line_ends fits done last lines old bytes used new are holds h =
       begun_ended new h.ended,
     )
 
-reads_line : (too_long : Bool) (fits : ℕ → Type 0) (done : List ℕ) (seen : List Shown) (old : Held) (bytes : List ℕ) (used : ℕ) (new : Held)
-    → (r : Reads done seen old) → (h : Ends fits old bytes used new) → nat_lt 512 (length (r.last ++ h.front)) ≡ too_long
-    → Reads (done ++ take used bytes) (seen ++ (record { bytes = new.bytes; too_long = too_long }) ∷ []) new
+reads_line : (too_long : Bool) (fits : ℕ → Type 0) (done : List ℕ) (seen : List Shown) (old : HeldLine) (bytes : List ℕ) (used : ℕ)
+    (new : HeldLine)
+    → (r : ReadsLines done seen old) → (h : EndsHeldLine fits old bytes used new) → nat_lt 512 (length (r.last ++ h.front)) ≡ too_long
+    → ReadsLines (done ++ take used bytes) (seen ++ (record { bytes = new.bytes; too_long = too_long }) ∷ []) new
 reads_line too_long fits done seen old bytes used new r h size =
     let line = r.last ++ h.front in
     let ends = line_ends fits done r.last r.lines old bytes used new r.are r.holds h in
@@ -125,8 +127,8 @@ is_long begun_bytes last front e lt =
     (omega (arith, lt, length-append begun_bytes front, length-append last front, ap length e, length-take 513 last))
 
 -- one call more
-pub reads_more : (done : List ℕ) (seen : List Shown) (old : Held) (bytes : List ℕ) (used : ℕ) (got : Got) (new : Held)
-    → Reads done seen old → Feeds old bytes used got new → Reads (done ++ take used bytes) (seen ++ shown_by_call got new) new
+pub reads_more : (done : List ℕ) (seen : List Shown) (old : HeldLine) (bytes : List ℕ) (used : ℕ) (got : Got) (new : HeldLine)
+    → ReadsLines done seen old → Feeds old bytes used got new → ReadsLines (done ++ take used bytes) (seen ++ shown_by_call got new) new
 reads_more done seen old bytes used More new r h = reads_on done seen old bytes used new r h
 reads_more done seen old bytes used Line new r h =
     reads_line false (λ n. n ≤ 512) done seen old bytes used new r h (is_short (begun old) r.last h.front r.holds h.size)
@@ -134,8 +136,8 @@ reads_more done seen old bytes used TooLong new r h =
     reads_line true (λ n. 512 < n) done seen old bytes used new r h (is_long (begun old) r.last h.front r.holds h.size)
 
 -- all calls
-pub reads_calls : (calls : List Call) (done : List ℕ) (seen : List Shown) (held : Held) → Reads done seen held → Follow held calls
-    → Reads (done ++ used_bytes calls) (seen ++ shown_by_calls calls) (held_after held calls)
+pub reads_calls : (calls : List Call) (done : List ℕ) (seen : List Shown) (held : HeldLine) → ReadsLines done seen held → Follow held calls
+    → ReadsLines (done ++ used_bytes calls) (seen ++ shown_by_calls calls) (held_after held calls)
 reads_calls [] done seen held r f = rw (append-nil done, append-nil seen) r
 reads_calls (call ∷ calls) done seen held r f =
     let one = reads_more done seen held call.offered call.used call.got call.after r f.0 in

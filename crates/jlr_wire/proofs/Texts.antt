@@ -20,7 +20,7 @@ use Rattle.jlr_device.specs.declared.device.Mode.TheVariants.{Read, Write}
 use Rattle.jlr_wire.proofs.Options.{bind_some, chosen, cond_some_of, and_parts}
 use Rattle.jlr_wire.proofs.Numbers.{byte_of_decimal, byte_of_spells}
 use Rattle.jlr_wire.specs.Lines.{IsWithout}
-use Rattle.jlr_wire.specs.Texts.{IsWord, IsPath, AreDigits}
+use Rattle.jlr_wire.specs.Texts.{IsWord, IsPathText, AreDigits}
 use Rattle.jlr_wire.specs.Commands.{mode_letter}
 use Rattle.jlr_wire.specs.Fields.{byte_of, word_of, data_of, mode_of}
 use Rattle.jlr_wire.specs.Reading.{count_of}
@@ -96,7 +96,7 @@ mode_of_spells text mode e = elim (chosen (bytes_eq text (codes "r")) (Some Read
 below_128 : (b : ℕ) → is_ascii_graphic b ≡ true → b < 128
 below_128 b h = grind (arith, h)
 
-pub path_is_utf8 : (text : List ℕ) → IsPath text → IsUtf8 text
+pub path_is_utf8 : (text : List ℕ) → IsPathText text → IsUtf8 text
 path_is_utf8 text h = IsUtf8-from_ascii text (IsAscii-from_all text (λ k d lt. below_128 _ (h.each k d lt)))
 
 pub ok_unless : {A E : Type 0} (r : Result A E) (P : A → Type 0) (Q : E → Type 0) → MatchResult r P Q → ((e : E) → Q e → ⊥) → IsOk r

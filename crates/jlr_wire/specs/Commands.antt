@@ -8,7 +8,7 @@ use Rattle.jlr_types.specs.declared.FieldKind.TheVariants.{Int as IntField, Ref 
 use Rattle.jlr_device.specs.declared.device.Mode.{Mode}
 use Rattle.jlr_device.specs.declared.device.Mode.TheVariants.{Read as Reading, Write as Writing}
 use Rattle.jlr_machine.specs.declared.ask.FullMode.TheVariants.{Policy, ClearAll}
-use Rattle.jlr_wire.specs.Texts.{IsPath, IsName, AreDigits}
+use Rattle.jlr_wire.specs.Texts.{IsPathText, IsNameText, AreDigits}
 use Rattle.jlr_wire.specs.declared.command.Command.{Command}
 use Rattle.jlr_wire.specs.declared.command.Command.TheVariants.{New, Put, Get, SetInt, Int, Dup, Drop, Same, Soft, Weak}
 use Rattle.jlr_wire.specs.declared.command.Command.TheVariants.{Phantom, Deref, Refers, Clear, Enqueue, Enqueued, Queue}
@@ -59,16 +59,16 @@ Fields Cleaner fields = fields ≡ codes "cleaner" ∷ []
 Fields (Register c h note) fields =
     (c < 256) × (h < 256) × (note < 2 ^ 32) × (fields ≡ codes "register" ∷ decimal c ∷ decimal h ∷ decimal note ∷ [])
 Fields (Clean c) fields = (c < 256) × (fields ≡ codes "clean" ∷ decimal c ∷ [])
-Fields (Open mode path) fields = IsPath path × (fields ≡ codes "open" ∷ mode_letter mode ∷ path ∷ [])
-Fields (Connect path) fields = IsPath path × (fields ≡ codes "connect" ∷ path ∷ [])
+Fields (Open mode path) fields = IsPathText path × (fields ≡ codes "open" ∷ mode_letter mode ∷ path ∷ [])
+Fields (Connect path) fields = IsPathText path × (fields ≡ codes "connect" ∷ path ∷ [])
 Fields (Read h count) fields = (h < 256) × (1 ≤ count) × (count ≤ 200)
     × (fields ≡ codes "read" ∷ decimal h ∷ decimal count ∷ [])
 Fields (Write h bytes) fields =
     (h < 256) × (digits : List ℕ) × AreDigits digits bytes × (fields ≡ codes "write" ∷ decimal h ∷ digits ∷ [])
 Fields (Close h) fields = (h < 256) × (fields ≡ codes "close" ∷ decimal h ∷ [])
-Fields (Bind name h) fields = IsName name × (h < 256) × (fields ≡ codes "bind" ∷ name ∷ decimal h ∷ [])
-Fields (Find name) fields = IsName name × (fields ≡ codes "find" ∷ name ∷ [])
-Fields (Unbind name) fields = IsName name × (fields ≡ codes "unbind" ∷ name ∷ [])
+Fields (Bind name h) fields = IsNameText name × (h < 256) × (fields ≡ codes "bind" ∷ name ∷ decimal h ∷ [])
+Fields (Find name) fields = IsNameText name × (fields ≡ codes "find" ∷ name ∷ [])
+Fields (Unbind name) fields = IsNameText name × (fields ≡ codes "unbind" ∷ name ∷ [])
 Fields Names fields = fields ≡ codes "names" ∷ []
 Fields (Full Policy) fields = fields ≡ codes "gc" ∷ []
 Fields (Full ClearAll) fields = fields ≡ codes "gc" ∷ codes "soft" ∷ []

@@ -21,14 +21,14 @@ pub record AreLines (bytes : List ℕ) (lines : List (List ℕ)) (last : List �
   pub open_end : IsInLine last
 
 -- A reader of lines: the first 513 bytes of the line under way or just ended, and whether it has ended.
-pub record Held : Type 0 where
+pub record HeldLine : Type 0 where
   pub bytes : List ℕ
   pub ended : Bool
 
 -- before the first byte
-abbrev pub nothing_held : Held
+abbrev pub nothing_held : HeldLine
 nothing_held = record { bytes = []; ended = false }
 
 -- what is held of the line under way
-abbrev pub begun : Held → List ℕ
+abbrev pub begun : HeldLine → List ℕ
 begun held = cond held.ended [] held.bytes

@@ -1,7 +1,7 @@
 -- What a reader of lines gives over many calls.
 use Rattle.std.specs.Prelude.{◌≡◌, ℕ, Bool, true, false, nat_lt, List, [], ◌∷◌, length, take, map}
 use Rattle.std.specs.List.{flat_map}
-use Rattle.jlr_wire.specs.Lines.{Held, begun, nothing_held, AreLines}
+use Rattle.jlr_wire.specs.Lines.{HeldLine, begun, nothing_held, AreLines}
 use Rattle.jlr_wire.specs.Feeding.{Feeds}
 use Rattle.jlr_wire.specs.declared.pieces.Got.{Got}
 use Rattle.jlr_wire.specs.declared.pieces.Got.TheVariants.{More, Line, TooLong}
@@ -11,10 +11,10 @@ pub record Call : Type 0 where
   pub offered : List ℕ
   pub used : ℕ
   pub got : Got
-  pub after : Held
+  pub after : HeldLine
 
 -- the calls follow one another, whatever bytes each was offered
-abbrev pub Follow : Held → List Call → Type 0
+abbrev pub Follow : HeldLine → List Call → Type 0
 Follow held [] = Unit {0}
 Follow held (call ∷ calls) = Feeds held call.offered call.used call.got call.after × Follow call.after calls
 
@@ -32,7 +32,7 @@ abbrev pub shown : List ℕ → Shown
 shown line = record { bytes = take 513 line; too_long = nat_lt 512 (length line) }
 
 -- what a call shows of the line that it ended, if it ended one
-abbrev pub shown_by_call : Got → Held → List Shown
+abbrev pub shown_by_call : Got → HeldLine → List Shown
 shown_by_call More after = []
 shown_by_call Line after = record { bytes = after.bytes; too_long = false } ∷ []
 shown_by_call TooLong after = record { bytes = after.bytes; too_long = true } ∷ []
@@ -42,12 +42,12 @@ abbrev pub shown_by_calls : List Call → List Shown
 shown_by_calls calls = flat_map (λ call. shown_by_call call.got call.after) calls
 
 -- what is held after the calls
-abbrev pub held_after : Held → List Call → Held
+abbrev pub held_after : HeldLine → List Call → HeldLine
 held_after held [] = held
 held_after held (call ∷ calls) = held_after call.after calls
 
 -- The bytes are these lines, shown in this order, and then the bytes of which the reader holds the first 513.
-pub record Reads (bytes : List ℕ) (seen : List Shown) (held : Held) : Type 0 where
+pub record ReadsLines (bytes : List ℕ) (seen : List Shown) (held : HeldLine) : Type 0 where
   pub lines : List (List ℕ)
   pub last : List ℕ
   pub are : AreLines bytes lines last
@@ -57,7 +57,7 @@ pub record Reads (bytes : List ℕ) (seen : List Shown) (held : Held) : Type 0 w
 -- the lines of a stream do not depend on the pieces in which it comes
 abbrev pub CutsDoNotMatter : Type 0
 CutsDoNotMatter = (calls : List Call) → Follow nothing_held calls
-    → Reads (used_bytes calls) (shown_by_calls calls) (held_after nothing_held calls)
+    → ReadsLines (used_bytes calls) (shown_by_calls calls) (held_after nothing_held calls)
 
 -- bytes have no second list of lines
 abbrev pub LinesAreUnique : Type 0

@@ -11,16 +11,16 @@ pub record IsWord (limit : ℕ) (kind : ℕ → Bool) (text : List ℕ) : Type 0
   pub each : AllPass kind text
 
 -- a path: visible characters of ASCII, 21 to 7E in hexadecimal
-abbrev pub IsPath : List ℕ → Type 0
-IsPath = IsWord 255 is_ascii_graphic
+abbrev pub IsPathText : List ℕ → Type 0
+IsPathText = IsWord 255 is_ascii_graphic
 
 -- a small letter, a digit or an underscore
 abbrev pub is_name_byte : ℕ → Bool
 is_name_byte b = is_ascii_lowercase b || is_ascii_digit b || eqb b 95
 
 -- the name of an object
-abbrev pub IsName : List ℕ → Type 0
-IsName = IsWord 32 is_name_byte
+abbrev pub IsNameText : List ℕ → Type 0
+IsNameText = IsWord 32 is_name_byte
 
 -- The bytes of a write, and their hexadecimal digits in either case.
 pub record AreDigits (digits bytes : List ℕ) : Type 0 where

@@ -17,13 +17,13 @@ pub struct Path<'a> {
 
 impl<'a> Model for Path<'a> {
     ghost use Rattle.std.specs.Prelude.{List, ℕ};
-    ghost use Rattle.jlr_wire.specs.Texts.{IsPath};
+    ghost use Rattle.jlr_wire.specs.Texts.{IsPathText};
 
     ghost Value = { List ℕ };
 
     ghost view = { λ a. a.text.now };
 
-    ghost invariant = { λ a. IsPath a.text.now };
+    ghost invariant = { λ a. IsPathText a.text.now };
 }
 
 impl<'a> Path<'a> {

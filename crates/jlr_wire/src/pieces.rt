@@ -1,7 +1,7 @@
 //! Lines out of a stream of bytes that comes in pieces.
 ghost use Rattle.std.specs.Prelude.{ℕ, List, ◌≡◌, ◌≤◌, ◌<◌, [], length, false, nat_lt, ◌&&◌, not, take, ◌++◌, ◌∷◌};
 ghost use Rattle.std.specs.Prelude.{cond, IfSome};
-ghost use Rattle.jlr_wire.specs.Lines.{Held, IsInLine, nothing_held};
+ghost use Rattle.jlr_wire.specs.Lines.{HeldLine, IsInLine, nothing_held};
 ghost use Rattle.jlr_wire.specs.Feeding.{Feeds, FindsLine, line_at};
 
 use crate::cut::cut_at;
@@ -40,7 +40,7 @@ pub enum LineAt {
     /// The line lies whole in the bytes that were taken, before its end.
     Bytes,
     /// The line came in pieces or is too long: what is held of it.
-    Held,
+    HeldLine,
 }
 
 /// How many of the bytes were taken, and where the line lies that ended in them.
@@ -59,7 +59,7 @@ pub struct Pieces {
 }
 
 impl Model for Pieces {
-    ghost Value = { Held };
+    ghost Value = { HeldLine };
 
     ghost view = { λ p. record { bytes = p.held.items; ended = p.ended } };
 }
@@ -134,7 +134,7 @@ impl Pieces {
         let at = if fed.got == Got::More {
             LineAt::Nowhere
         } else {
-            LineAt::Held
+            LineAt::HeldLine
         };
         Next { used: fed.used, at }
     }

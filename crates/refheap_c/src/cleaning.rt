@@ -2,7 +2,7 @@
 //! gives a token back once.
 ghost use Rattle.std.specs.Prelude.{◌≡◌, Err, MatchOption, Ok};
 ghost use Rattle.jlr_embed.specs.Tells.{fault_numbered, outcome_numbered};
-ghost use Rattle.jlr_embed.specs.Ways.{Adopts, Ends, EndsCarrying, GivesHandle, GivesJob, GivesToken, IsOutOfRange};
+ghost use Rattle.jlr_embed.specs.Ways.{Adopts, EndsOnly, EndsCarrying, GivesHandle, GivesJob, GivesToken, IsOutOfRange};
 ghost use Rattle.refheap_c.specs.Layouts.{call_outcome};
 
 use jlr_embed::handle::out::Taken;
@@ -71,7 +71,7 @@ pub extern "C" fn refheap_clean(
 /// `refheap_adopt` or `refheap_give_up`.
 #[unsafe(no_mangle)]
 pub extern "C" fn refheap_prepare(alloc: Global, heap: &mut Heap, by: u8) -> u32
-    ensures { Ends heap.old.value (Event.Ask (Ask.Prepare by)) result heap.new.value }
+    ensures { EndsOnly heap.old.value (Event.Ask (Ask.Prepare by)) result heap.new.value }
 {
     let ask = Ask::Prepare {
         mutator: Mutator::new(by),
@@ -214,7 +214,7 @@ pub extern "C" fn refheap_finish(
     fault: u32,
 ) -> u32
     ensures { MatchOption (outcome_numbered fault) (IsOutOfRange heap.old.value result heap.new.value)
-        (λ ended. Ends heap.old.value (Event.Ask (Ask.Finish by action ended)) result heap.new.value) }
+        (λ ended. EndsOnly heap.old.value (Event.Ask (Ask.Finish by action ended)) result heap.new.value) }
 {
     let Some(ended) = tell::outcome(fault) else {
         return RANGE;

@@ -1,8 +1,8 @@
 //! Collections, the handler's steps, cycles in pieces, and what is counted and recorded.
 ghost use Rattle.std.specs.Prelude.{◌≡◌};
-ghost use Rattle.jlr_embed.specs.Calls.{HandsOver, Marks};
+ghost use Rattle.jlr_embed.specs.Calls.{HandsOverOnce, Marks};
 ghost use Rattle.jlr_embed.specs.Tells.{TellsHanded, TellsProgress};
-ghost use Rattle.jlr_embed.specs.Ways.{Ends, GivesCounts, GivesFailure, GivesNote, GivesTruth};
+ghost use Rattle.jlr_embed.specs.Ways.{EndsOnly, GivesCounts, GivesFailure, GivesNote, GivesTruth};
 
 use jlr_embed::handle::out::{Counts, Failed};
 use jlr_embed::handle::{Heap, calls};
@@ -14,7 +14,7 @@ use std::alloc::Global;
 /// A full collection, which keeps soft references by their age.
 #[unsafe(no_mangle)]
 pub extern "C" fn refheap_gc(alloc: Global, heap: &mut Heap, by: u8) -> u32
-    ensures { Ends heap.old.value (Event.Ask (Ask.Full by FullMode.Policy)) result heap.new.value }
+    ensures { EndsOnly heap.old.value (Event.Ask (Ask.Full by FullMode.Policy)) result heap.new.value }
 {
     let ask = Ask::Full {
         mutator: Mutator::new(by),
@@ -26,7 +26,7 @@ pub extern "C" fn refheap_gc(alloc: Global, heap: &mut Heap, by: u8) -> u32
 /// A full collection that clears each soft reference whose referent is not strongly reachable.
 #[unsafe(no_mangle)]
 pub extern "C" fn refheap_gc_soft(alloc: Global, heap: &mut Heap, by: u8) -> u32
-    ensures { Ends heap.old.value (Event.Ask (Ask.Full by FullMode.ClearAll)) result heap.new.value }
+    ensures { EndsOnly heap.old.value (Event.Ask (Ask.Full by FullMode.ClearAll)) result heap.new.value }
 {
     let ask = Ask::Full {
         mutator: Mutator::new(by),
@@ -39,7 +39,7 @@ pub extern "C" fn refheap_gc_soft(alloc: Global, heap: &mut Heap, by: u8) -> u32
 /// where nothing is pending.
 #[unsafe(no_mangle)]
 pub extern "C" fn refheap_hand_over(alloc: Global, heap: &mut Heap) -> u32
-    ensures { HandsOver heap.old.value (result ≡ 32) (TellsHanded result) heap.new.value }
+    ensures { HandsOverOnce heap.old.value (result ≡ 32) (TellsHanded result) heap.new.value }
 {
     calls::hands_over(alloc, heap)
 }

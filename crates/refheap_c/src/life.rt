@@ -1,8 +1,8 @@
 //! A handle is opened and closed; mutators join and leave.
 ghost use Rattle.std.specs.Prelude.{◌≡◌, ◌⊎◌, None};
 ghost use Rattle.jlr_types.specs.Ranges.{first_fault};
-ghost use Rattle.jlr_embed.specs.Calls.{Opens, TellsLimit};
-ghost use Rattle.jlr_embed.specs.Ways.{Ends};
+ghost use Rattle.jlr_embed.specs.Calls.{OpensHeap, TellsLimit};
+ghost use Rattle.jlr_embed.specs.Ways.{EndsOnly};
 
 use jlr_embed::handle::{Heap, calls, open};
 use jlr_event::event::Event;
@@ -23,7 +23,7 @@ pub extern "C" fn refheap_open(
     resources: u32,
     soft_age: u32,
 ) -> u32
-    ensures { ((result ≡ 0) × Opens cells sessions resources soft_age heap.new.value)
+    ensures { ((result ≡ 0) × OpensHeap cells sessions resources soft_age heap.new.value)
         ⊎ (((result ≡ 1) ⊎ TellsLimit result (first_fault cells sessions resources soft_age 64 4096))
         × (heap.new.value ≡ heap.old.value)) }
 {
@@ -41,7 +41,7 @@ pub extern "C" fn refheap_close(alloc: Global, heap: &mut Heap)
 /// A mutator joins.
 #[unsafe(no_mangle)]
 pub extern "C" fn refheap_join(alloc: Global, heap: &mut Heap, by: u8) -> u32
-    ensures { Ends heap.old.value (Event.Ask (Ask.Join by)) result heap.new.value }
+    ensures { EndsOnly heap.old.value (Event.Ask (Ask.Join by)) result heap.new.value }
 {
     let ask = Ask::Join {
         mutator: Mutator::new(by),
@@ -52,7 +52,7 @@ pub extern "C" fn refheap_join(alloc: Global, heap: &mut Heap, by: u8) -> u32
 /// A mutator leaves: its handles are dropped.
 #[unsafe(no_mangle)]
 pub extern "C" fn refheap_leave(alloc: Global, heap: &mut Heap, by: u8) -> u32
-    ensures { Ends heap.old.value (Event.Ask (Ask.Leave by)) result heap.new.value }
+    ensures { EndsOnly heap.old.value (Event.Ask (Ask.Leave by)) result heap.new.value }
 {
     let ask = Ask::Leave {
         mutator: Mutator::new(by),

@@ -1,7 +1,7 @@
 //! Names.
 ghost use Rattle.std.specs.Prelude.{◌≡◌, ◌⊎◌, false, true};
 ghost use Rattle.jlr_machine.specs.Names.{is_name};
-ghost use Rattle.jlr_embed.specs.Ways.{Ends, GivesHandle, GivesName, IsOutOfRange};
+ghost use Rattle.jlr_embed.specs.Ways.{EndsOnly, GivesHandle, GivesName, IsOutOfRange};
 
 use jlr_embed::handle::status::RANGE;
 use jlr_embed::handle::{Heap, calls};
@@ -22,7 +22,7 @@ pub extern "C" fn refheap_bind(
     object: u8,
 ) -> u32
     ensures { ((is_name name.now ≡ false) × IsOutOfRange heap.old.value result heap.new.value)
-        ⊎ ((is_name name.now ≡ true) × Ends heap.old.value (Event.Ask (Ask.Bind by name.now object)) result
+        ⊎ ((is_name name.now ≡ true) × EndsOnly heap.old.value (Event.Ask (Ask.Bind by name.now object)) result
         heap.new.value) }
 {
     let Some(name) = Name::from_slice(name) else {
@@ -63,7 +63,8 @@ pub extern "C" fn refheap_find(
 #[unsafe(no_mangle)]
 pub extern "C" fn refheap_unbind(alloc: Global, heap: &mut Heap, by: u8, name: &[u8]) -> u32
     ensures { ((is_name name.now ≡ false) × IsOutOfRange heap.old.value result heap.new.value)
-        ⊎ ((is_name name.now ≡ true) × Ends heap.old.value (Event.Ask (Ask.Unbind by name.now)) result heap.new.value) }
+        ⊎ ((is_name name.now ≡ true) × EndsOnly heap.old.value (Event.Ask (Ask.Unbind by name.now)) result
+        heap.new.value) }
 {
     let Some(name) = Name::from_slice(name) else {
         return RANGE;

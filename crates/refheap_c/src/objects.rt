@@ -1,6 +1,6 @@
 //! Plain objects, arrays and their fields, and handles.
 ghost use Rattle.std.specs.Prelude.{◌≡◌, ◌≤◌, ◌<◌, ◌⊎◌};
-ghost use Rattle.jlr_embed.specs.Ways.{Ends, GivesHandle, GivesInteger, GivesTruth, IsOutOfRange};
+ghost use Rattle.jlr_embed.specs.Ways.{EndsOnly, GivesHandle, GivesInteger, GivesTruth, IsOutOfRange};
 ghost use Rattle.refheap_c.specs.Layouts.{layout_of};
 
 use crate::layout::layout;
@@ -80,7 +80,7 @@ pub extern "C" fn refheap_dup(
 /// A handle is dropped.
 #[unsafe(no_mangle)]
 pub extern "C" fn refheap_drop(alloc: Global, heap: &mut Heap, by: u8, object: u8) -> u32
-    ensures { Ends heap.old.value (Event.Ask (Ask.Drop by object)) result heap.new.value }
+    ensures { EndsOnly heap.old.value (Event.Ask (Ask.Drop by object)) result heap.new.value }
 {
     let ask = Ask::Drop {
         mutator: Mutator::new(by),
@@ -120,7 +120,7 @@ pub extern "C" fn refheap_put(
     value: u8,
 ) -> u32
     ensures { ((4096 ≤ field) × IsOutOfRange heap.old.value result heap.new.value)
-        ⊎ Ends heap.old.value (Event.Ask (Ask.Put by object field value)) result heap.new.value }
+        ⊎ EndsOnly heap.old.value (Event.Ask (Ask.Put by object field value)) result heap.new.value }
 {
     let Some(field) = FieldNo::new(field) else {
         return RANGE;
@@ -169,7 +169,7 @@ pub extern "C" fn refheap_set_int(
     value: i64,
 ) -> u32
     ensures { ((4096 ≤ field) × IsOutOfRange heap.old.value result heap.new.value)
-        ⊎ Ends heap.old.value (Event.Ask (Ask.SetInt by object field value)) result heap.new.value }
+        ⊎ EndsOnly heap.old.value (Event.Ask (Ask.SetInt by object field value)) result heap.new.value }
 {
     let Some(field) = FieldNo::new(field) else {
         return RANGE;

@@ -1,6 +1,6 @@
 //! Soft, weak and phantom references, and their queues.
 ghost use Rattle.std.specs.Prelude.{◌≡◌};
-ghost use Rattle.jlr_embed.specs.Ways.{Ends, GivesHandle, GivesTruth};
+ghost use Rattle.jlr_embed.specs.Ways.{EndsOnly, GivesHandle, GivesTruth};
 
 use jlr_embed::handle::{Heap, calls};
 use jlr_event::event::Event;
@@ -116,7 +116,7 @@ pub extern "C" fn refheap_refers(
 /// A reference is cleared, and not put on its queue.
 #[unsafe(no_mangle)]
 pub extern "C" fn refheap_clear(alloc: Global, heap: &mut Heap, by: u8, reference: u8) -> u32
-    ensures { Ends heap.old.value (Event.Ask (Ask.Clear by reference)) result heap.new.value }
+    ensures { EndsOnly heap.old.value (Event.Ask (Ask.Clear by reference)) result heap.new.value }
 {
     let ask = Ask::Clear {
         mutator: Mutator::new(by),

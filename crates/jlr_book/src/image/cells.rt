@@ -1,6 +1,6 @@
 //! The cells of an empty machine, made in pieces.
 ghost use Rattle.std.specs.Prelude.{◌≡◌};
-ghost use Rattle.jlr_book.specs.ImageKeeping.{AreFree};
+ghost use Rattle.jlr_book.specs.ImageKeeping.{AreEmptyCells};
 
 use jlr_machine::object::Object;
 use std::alloc::AllocError;
@@ -14,8 +14,8 @@ pub(crate) fn add_cells(
     limit: usize,
     more: usize,
 ) -> Result<(), AllocError>
-    requires { AreFree cells.old limit }
-    ensures { AreFree cells.new limit }
+    requires { AreEmptyCells cells.old limit }
+    ensures { AreEmptyCells cells.new limit }
 {
     let left = limit - cells.len();
     cells.reserve(left)?;

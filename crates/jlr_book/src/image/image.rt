@@ -57,13 +57,13 @@ pub struct Image {
 impl Model for Image {
     ghost use Rattle.std.specs.Prelude.{drop};
     ghost use Rattle.jlr_machine.specs.declared.machine.Machine.{Machine as MachineOf};
-    ghost use Rattle.jlr_book.specs.ImageKeeping.{image_from, Keeps};
+    ghost use Rattle.jlr_book.specs.ImageKeeping.{image_from, KeepsImage};
 
     ghost Value = { MachineOf };
 
     ghost view = { λ i. image_from i.limits i.machine (drop i.place i.entries.items) };
 
-    ghost invariant = { λ i. Keeps i.limits i.machine i.cells i.entries i.place };
+    ghost invariant = { λ i. KeepsImage i.limits i.machine i.cells i.entries i.place };
 }
 
 impl Image {

@@ -157,7 +157,7 @@ pub(super) fn first_wrong_of<'a>(
 ) -> Result<Option<&'a str>, AllocError> {
     match ready_again(alloc, shape) {
         Ok(made) => first_wrong_on(alloc, made, rows),
-        Err(wanting) => Err(wanting),
+        Err(memory_refusal) => Err(memory_refusal),
     }
 }
 

@@ -4,10 +4,10 @@ ghost use Rattle.jlr_event.specs.Events.{ask_of};
 ghost use Rattle.jlr_core.specs.Events.{carries_none};
 ghost use Rattle.jlr_embed.specs.Kinds.{is_faults, is_handle, is_integer, is_job, is_names, is_notes, is_out, is_stat};
 ghost use Rattle.jlr_embed.specs.Kinds.{is_told, is_truth, kind_asked, suits};
-ghost use Rattle.jlr_embed.specs.Calls.{HandsOver, Marks};
-ghost use Rattle.jlr_embed.specs.OneEvent.{Asked, Carried};
+ghost use Rattle.jlr_embed.specs.Calls.{HandsOverOnce, Marks};
+ghost use Rattle.jlr_embed.specs.OneEvent.{AskedOnce, Carried};
 ghost use Rattle.jlr_embed.specs.Tells.{TellsHanded, TellsProgress};
-ghost use Rattle.jlr_embed.specs.Ways.{Adopts, Ends, EndsCarrying, GivesCounts, GivesFailure, GivesHandle};
+ghost use Rattle.jlr_embed.specs.Ways.{Adopts, EndsOnly, EndsCarrying, GivesCounts, GivesFailure, GivesHandle};
 ghost use Rattle.jlr_embed.specs.Ways.{GivesInteger};
 ghost use Rattle.jlr_embed.specs.Ways.{GivesJob, GivesName, GivesNote, GivesToken, GivesTruth};
 
@@ -25,7 +25,7 @@ use std::mem;
 fn ask(alloc: Global, heap: &mut Heap, asked: &Ask) -> Option<Answer>
     requires plain { carries_none asked.now ≡ true }
     ensures asked { MatchOption result ((heap.old.value ≡ None) × (heap.new.value ≡ None))
-        (λ answer. Asked heap.old.value (Event.Ask asked.now) answer heap.new.value) }
+        (λ answer. AskedOnce heap.old.value (Event.Ask asked.now) answer heap.new.value) }
     ensures kind { IfSome result (λ answer. is_told (kind_asked (Some asked.now)) answer ≡ true) }
 {
     match heap.take(alloc) {
@@ -43,7 +43,7 @@ fn ask(alloc: Global, heap: &mut Heap, asked: &Ask) -> Option<Answer>
 fn make(alloc: Global, heap: &mut Heap, asked: &Ask) -> Option<Answer>
     requires plain { carries_none asked.now ≡ true }
     ensures asked { MatchOption result ((heap.old.value ≡ None) × (heap.new.value ≡ None))
-        (λ answer. Asked heap.old.value (Event.Ask asked.now) answer heap.new.value) }
+        (λ answer. AskedOnce heap.old.value (Event.Ask asked.now) answer heap.new.value) }
     ensures kind { IfSome result (λ answer. is_told (kind_asked (Some asked.now)) answer ≡ true) }
 {
     match heap.take(alloc) {
@@ -78,7 +78,7 @@ fn carry(alloc: Global, heap: &mut Heap, event: Event<u64>) -> Option<(Answer, O
 #[inline(always)]
 pub fn does(alloc: Global, heap: &mut Heap, asked: Ask) -> u32
     requires plain { carries_none asked ≡ true }
-    ensures { Ends heap.old.value (Event.Ask asked) result heap.new.value }
+    ensures { EndsOnly heap.old.value (Event.Ask asked) result heap.new.value }
 {
     let told = match ask(alloc, heap, &asked) {
         Some(answer) => tell::end(answer),
@@ -254,7 +254,7 @@ pub fn lends(alloc: Global, heap: &mut Heap, event: Event<u64>, out: &mut u64) -
 /// A step of the handler.
 #[inline(always)]
 pub fn hands_over(alloc: Global, heap: &mut Heap) -> u32
-    ensures { HandsOver heap.old.value (result ≡ 32) (TellsHanded result) heap.new.value }
+    ensures { HandsOverOnce heap.old.value (result ≡ 32) (TellsHanded result) heap.new.value }
 {
     match heap.take(alloc) {
         Some(mut open) => {

@@ -2,7 +2,7 @@
 ghost use Rattle.std.specs.Prelude.{◌≡◌, ◌⊎◌, IfOk, None};
 ghost use Rattle.jlr_types.specs.Ranges.{first_fault};
 ghost use Rattle.jlr_core.specs.Steps.{IsEmpty};
-ghost use Rattle.jlr_embed.specs.Calls.{Opens, TellsLimit};
+ghost use Rattle.jlr_embed.specs.Calls.{OpensHeap, TellsLimit};
 
 use crate::Embedded;
 use crate::handle::handle::Heap;
@@ -20,7 +20,7 @@ pub fn open(
     resources: u32,
     soft_age: u32,
 ) -> u32
-    ensures { ((result ≡ 0) × Opens cells sessions resources soft_age heap.new.value)
+    ensures { ((result ≡ 0) × OpensHeap cells sessions resources soft_age heap.new.value)
         ⊎ (((result ≡ 1) ⊎ TellsLimit result (first_fault cells sessions resources soft_age 64 4096))
         × (heap.new.value ≡ heap.old.value)) }
 {
@@ -32,7 +32,7 @@ pub fn open(
 
 /// The same of limits that are in range.
 fn open_with(alloc: Global, heap: &mut Heap, limits: Limits) -> u32
-    ensures { ((result ≡ 0) × Opens limits.cells limits.sessions limits.resources limits.soft_age heap.new.value)
+    ensures { ((result ≡ 0) × OpensHeap limits.cells limits.sessions limits.resources limits.soft_age heap.new.value)
         ⊎ ((result ≡ 1) × (heap.new.value ≡ heap.old.value)) }
 {
     match empty(alloc, limits) {

@@ -9,7 +9,7 @@ ghost use Rattle.jlr_event.specs.declared.event.Reply.TheVariants.{Answered};
 ghost use Rattle.jlr_session.specs.Asks.{TellsFinished};
 ghost use Rattle.jlr_book.specs.Histories.{IsHistory, IsNewBook};
 ghost use Rattle.jlr_book.specs.Rules.{BookSteps};
-ghost use Rattle.jlr_prog.specs.Settling.{CannotHandOver, Cleans, HandsAllOver, HandsOver, Works};
+ghost use Rattle.jlr_prog.specs.Settling.{CannotHandOver, CleansUp, HandsAllOver, HandsOver, Works};
 ghost use Rattle.jlr_prog.specs.Solos.{at_book, by_book, cleaner_seat, handler_seat};
 ghost use Rattle.jlr_prog.specs.OneTurn.{IsTurn, turn_by};
 
@@ -125,7 +125,7 @@ impl<R: Resource + Drop> Solo<R> {
     {
         let seat = self.handler();
         self.book.is_history();
-        match self.book.hand_over_briefly(seat) {
+        match self.book.try_hand_over(seat) {
             Some(_) => Turn::Worked,
             None => self.hand_over_at_length(),
         }
@@ -148,7 +148,7 @@ impl<R: Resource + Drop> Solo<R> {
 
     /// Turns of the cleaner, until its line is empty or one is refused.
     fn clean_all(&mut self)
-        ensures { Cleans at_book R.handling self.old self.new }
+        ensures { CleansUp at_book R.handling self.old self.new }
     {
         while !self.book.line_empty() {
             match self.clean() {
@@ -168,7 +168,7 @@ impl<R: Resource + Drop> Solo<R> {
     {
         let seat = self.cleaner();
         self.book.is_history();
-        match self.book.take_up_briefly(seat) {
+        match self.book.try_take_up(seat) {
             Some(Ok(Some(job))) => {
                 self.finish(seat, job);
                 Turn::Worked
@@ -228,7 +228,7 @@ impl<R: Resource + Drop> Port<R> for Solo<R> {
         let _declined = guard;
         match ReadRoom::new(self.book.alloc()) {
             Ok(room) => Ok(room),
-            Err(_) => Err(self.book.wanting()),
+            Err(_) => Err(self.book.memory_refusal()),
         }
     }
 

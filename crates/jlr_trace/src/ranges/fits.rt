@@ -4,7 +4,7 @@ ghost use Rattle.jlr_machine.specs.declared.machine.Machine.{Machine as MachineO
 ghost use Rattle.jlr_machine.specs.WellFormed.{IsImage};
 ghost use Rattle.jlr_machine.specs.Run.{Run};
 ghost use Rattle.jlr_trace.specs.Files.{HasSpelling, history_of};
-ghost use Rattle.jlr_trace.specs.Ranges.{AreLimits};
+ghost use Rattle.jlr_trace.specs.Ranges.{LimitsInRange};
 
 use crate::ranges::list::all_in_range;
 use crate::ranges::machine::machine_in_range;
@@ -25,7 +25,7 @@ fn count_in_range(entries: &[Entry])
 /// heap may have, and its entries are a run from the image: no list in it is too long, and each slot is one.
 pub fn run_has_spelling(base: u64, image: &Machine, entries: &[Entry])
     requires image { IsImage image.now }
-    requires limits { AreLimits image.now }
+    requires limits { LimitsInRange image.now }
     requires run { (n : MachineOf) × Run image.now entries.now n }
     ensures { HasSpelling (history_of base image.now entries.now) }
 {

@@ -36,9 +36,9 @@ returns-in-Err-clause-meets g c =
 pub returns-in-Err-clause-memory : goal.returns-in-Err-clause-memory
 returns-in-Err-clause-memory g c =
     λ e.
-    let wanting : c.in-Err.refusal ≡ NoMemory = cc e in
+    let memory_refusal : c.in-Err.refusal ≡ NoMemory = cc e in
     never_memory (machine_of c.args.state.now) (Register c.args.by c.args.cleaner c.args.object c.args.note) c.in-Err.refusal refl
-    (c.in-Err.ensures c.args.note) wanting
+    (c.in-Err.ensures c.args.note) memory_refusal
 
 pub returns-in-Err-allocate-clause-meets : goal.returns-in-Err-allocate-clause-meets
 returns-in-Err-allocate-clause-meets g c =

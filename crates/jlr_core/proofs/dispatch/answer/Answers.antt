@@ -9,7 +9,7 @@ use Rattle.jlr_machine.specs.Chosen.{Chosen}
 use Rattle.jlr_machine.specs.Choices.{Choosing, nothing_chosen}
 use Rattle.jlr_machine.specs.Run.{no_choice}
 use Rattle.jlr_marks.specs.Marking.{Marking}
-use Rattle.jlr_state.specs.Events.{StepsBy}
+use Rattle.jlr_state.specs.Events.{StepsMachine}
 use Rattle.jlr_state.specs.Machines.{machine_of}
 use Rattle.jlr_state.specs.State.{Answered, Meets, MeetsSeen, answer_of, is_collect}
 use Rattle.jlr_state.proofs.Entries.{IsPlain, meets_answered}
@@ -18,17 +18,17 @@ use Rattle.jlr_core.proofs.dispatch.answer.Goals as goal
 -- an ask that was met is the step of its event
 met :
     (m n : Machine) (marking : Marking) (asked : Option Ask) (ask : Ask) (a : Answer) (chosen : Chosen)
-    → asked ≡ Some ask → is_collect ask ≡ false → Meets m ask a chosen n → StepsBy m marking asked (Some a) chosen n
+    → asked ≡ Some ask → is_collect ask ≡ false → Meets m ask a chosen n → StepsMachine m marking asked (Some a) chosen n
 met m n marking asked ask a chosen is other meets =
     let meets_if : Bool → Type 0 =
     λ collects. elim collects [ true ↦ MeetsSeen m marking ask a chosen n | false ↦ Meets m ask a chosen n ] in
-    subst (λ (o : Option Ask). StepsBy m marking o (Some a) chosen n) (sym is) (subst meets_if (sym other) meets)
+    subst (λ (o : Option Ask). StepsMachine m marking o (Some a) chosen n) (sym is) (subst meets_if (sym other) meets)
 
 -- nothing was chosen
 plainly :
     (m n : Machine) (marking : Marking) (asked : Option Ask) (ask : Ask) (a : Answer) (choice : Choosing)
     → asked ≡ Some ask → is_collect ask ≡ false → choice ≡ nothing_chosen choice.cells → Meets m ask a no_choice n
-    → StepsBy m marking asked (Some a) choice.chosen n
+    → StepsMachine m marking asked (Some a) choice.chosen n
 plainly m n marking asked ask a choice is other nothing meets =
     let none : no_choice ≡ choice.chosen = sym (ap (λ (x : Choosing). x.chosen) nothing) in
     met m n marking asked ask a choice.chosen is other (subst (λ (c : Chosen). Meets m ask a c n) none meets)
@@ -36,7 +36,7 @@ plainly m n marking asked ask a choice is other nothing meets =
 answered :
     (m n : Machine) (marking : Marking) (asked : Option Ask) (ask : Ask) (result : Result Answer Refusal) (choice : Choosing)
     → asked ≡ Some ask → is_collect ask ≡ false → IsPlain ask → choice ≡ nothing_chosen choice.cells
-    → Answered m ask result n → StepsBy m marking asked (Some (answer_of result)) choice.chosen n
+    → Answered m ask result n → StepsMachine m marking asked (Some (answer_of result)) choice.chosen n
 answered m n marking asked ask result choice is other plain nothing did =
     plainly m n marking asked ask (answer_of result) choice is other nothing (meets_answered m n ask result plain did)
 

@@ -2,7 +2,7 @@ use Rattle.std.proofs.Common.{◌≡◌, ◌+◌, ◌-◌, ◌∷◌, ◌++◌, 
 use Rattle.std.specs.Prelude.{drop, slice_get}
 use Rattle.jlr_machine.specs.Choices.{Choosing, collecting, kept_by, pended_by}
 use Rattle.jlr_marks.specs.Marking.{Marking}
-use Rattle.jlr_process.specs.Settling.{Clears, cleared_graph, is_losing, newly_pending}
+use Rattle.jlr_process.specs.Settling.{SettlesSlots, cleared_graph, is_losing, newly_pending}
 use Rattle.jlr_process.proofs.Twice.{clears_more, more_left, no_place, room_left}
 use Rattle.jlr_process.proofs.collection.settle_discovered.Goals as goal
 
@@ -41,7 +41,7 @@ loop-place-preserved c =
     record {
       clears = (
         more.0,
-        subst (λ l. Clears m l c.args.heap.now.graph c.args.choice.now more.0 c.settle.new.heap.graph c.settle.new.choice)
+        subst (λ l. SettlesSlots m l c.args.heap.now.graph c.args.choice.now more.0 c.settle.new.heap.graph c.settle.new.choice)
             (ap (λ n. d ∷ drop n m.discovered) (sym before) ∙ more_left m.discovered next d here) more.1,
       );
       clock = c.settle.ensures.clock ∙ i.clock;

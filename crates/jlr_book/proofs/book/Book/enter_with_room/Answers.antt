@@ -2,7 +2,7 @@ use Rattle.std.proofs.Common.{◌+◌, ◌≤◌, arith, rules, subst, sym, ap, 
 use Rattle.jlr_event.specs.declared.event.Event.TheVariants.{Ask as Asks}
 use Rattle.jlr_book.specs.Histories.{HasNumbers}
 use Rattle.jlr_book.specs.Rules.{AsksBy}
-use Rattle.jlr_book.specs.Writing.{Writes}
+use Rattle.jlr_book.specs.Writing.{WritesEntry}
 use Rattle.jlr_book.proofs.Entering.{still_suits}
 use Rattle.jlr_book.proofs.Histories.{asks_by, cut_asks_by, cut_goes_on, enter_goes_on, told, IsCut}
 use Rattle.jlr_book.proofs.book.Book.enter_with_room.Given.{Over}
@@ -26,7 +26,8 @@ invariant_of-self-then-len-self g c =
     let numbers = subst HasNumbers (sym c.self.view_is) c.if-not-has_numbers.ensures in
     let room : c.reserve.new.self.len + 130 ≤ c.reserve.new.self.cap = search rules in
     let same = c.reserve.ensures.len in
-    let w = subst (λ xs. Writes c.args.seat old.core xs (Asks c.args.ask) c.record.result new.core new.trace.items) c.reserve.ensures.items
+    let w = subst (λ xs. WritesEntry c.args.seat old.core xs (Asks c.args.ask) c.record.result new.core new.trace.items)
+    c.reserve.ensures.items
     c.record.ensures.writes in
     let x = enter_goes_on old.limits old.base old.image old.trace.items new.trace.items old.core new.core c.args.seat (Asks c.args.ask)
     c.record.result kept.history w c.record.ensures.cells (omega (arith, numbers, l)) in
@@ -44,7 +45,8 @@ returns-then-len-self g c =
     let l = old.trace.ok.0 in
     let same = c.reserve.ensures.len in
     let numbers = subst HasNumbers (sym c.self.view_is) c.if-not-has_numbers.ensures in
-    let w = subst (λ xs. Writes c.args.seat old.core xs (Asks c.args.ask) c.record.result new.core new.trace.items) c.reserve.ensures.items
+    let w = subst (λ xs. WritesEntry c.args.seat old.core xs (Asks c.args.ask) c.record.result new.core new.trace.items)
+    c.reserve.ensures.items
     c.record.ensures.writes in
     subst (λ h. AsksBy c.args.seat h (Asks c.args.ask) c.record.result (told old.limits old.base old.image new.trace.items new.core))
     c.self.view_is
@@ -87,7 +89,7 @@ invariant_of-self-2 g c =
     let new = c.record-2.new in
     let l' = new.trace.ok.0 in
     let room : c.reserve.new.self.len + 130 ≤ c.reserve.new.self.cap = search rules in
-    let w = subst (λ xs. Writes c.args.seat c.cut_to_image.new.core xs (Asks c.args.ask) c.record-2.result new.core new.trace.items)
+    let w = subst (λ xs. WritesEntry c.args.seat c.cut_to_image.new.core xs (Asks c.args.ask) c.record-2.result new.core new.trace.items)
     c.in-Ok-cut_to_image.ensures.items c.record-2.ensures.writes in
     let x = cut_goes_on old.limits old.base c.in-Ok-cut_to_image.used old.image c.cut_to_image.new.image old.trace.items old.core
     c.cut_to_image.new.core new.trace.items new.core c.args.seat (Asks c.args.ask) c.record-2.result (cut_is g c) w
@@ -105,7 +107,7 @@ returns g c =
     let new = c.record-2.new in
     let l = old.trace.ok.0 in
     let same = c.reserve.ensures.len in
-    let w = subst (λ xs. Writes c.args.seat c.cut_to_image.new.core xs (Asks c.args.ask) c.record-2.result new.core new.trace.items)
+    let w = subst (λ xs. WritesEntry c.args.seat c.cut_to_image.new.core xs (Asks c.args.ask) c.record-2.result new.core new.trace.items)
     c.in-Ok-cut_to_image.ensures.items c.record-2.ensures.writes in
     subst (λ h. AsksBy c.args.seat h (Asks c.args.ask) c.record-2.result
     (told old.limits (old.base + c.in-Ok-cut_to_image.used) c.cut_to_image.new.image new.trace.items new.core)) c.self.view_is

@@ -8,44 +8,44 @@ use Rattle.jlr_book.proofs.Entering.{brief_is_no_end}
 use Rattle.jlr_book.proofs.Histories.{asks_by, enter_goes_on, steps_as_asked, told}
 use Rattle.jlr_book.proofs.book.Book.step_on.Goals as goal
 
-pub record_briefly-answer-requires-clause-place : goal.record_briefly-answer-requires-clause-place
-record_briefly-answer-requires-clause-place g c =
-    let places = c.if-has_places.ensures in
+pub record_in_place-answer-requires-clause-place : goal.record_in_place-answer-requires-clause-place
+record_in_place-answer-requires-clause-place g c =
+    let places = c.if-has_reserved_places.ensures in
     omega (arith, places.1)
 
 pub invariant_of-self : goal.invariant_of-self
 invariant_of-self g c =
     let old = c.self.inside in
     let kept = c.self.invariant in
-    let new = c.record_briefly-answer.new in
+    let new = c.record_in_place-answer.new in
     let l = old.trace.ok.0 in
     let l' = new.trace.ok.0 in
-    let places = c.if-has_places.ensures in
+    let places = c.if-has_reserved_places.ensures in
     let numbers = subst HasNumbers (sym c.self.view_is) c.if-has_numbers.ensures in
-    let reply = Answered c.record_briefly-answer.result None in
+    let reply = Answered c.record_in_place-answer.result None in
     let x = enter_goes_on old.limits old.base old.image old.trace.items new.trace.items old.core new.core c.args.seat
     (Asks c.into_ask-ask.result) reply
-    kept.history c.record_briefly-answer.ensures.writes c.record_briefly-answer.ensures.cells (omega (arith, numbers, l)) in
+    kept.history c.record_in_place-answer.ensures.writes c.record_in_place-answer.ensures.cells (omega (arith, numbers, l)) in
     record {
       history = x.0;
-      places = omega (arith, l, l', x.1, x.2, places.1, c.record_briefly-answer.ensures.room);
-      choice = omega (arith, kept.choice, c.record_briefly-answer.ensures.choice);
+      places = omega (arith, l, l', x.1, x.2, places.1, c.record_in_place-answer.ensures.room);
+      choice = omega (arith, kept.choice, c.record_in_place-answer.ensures.choice);
     }
 
 pub returns-then-not-will_collect : goal.returns-then-not-will_collect
 returns-then-not-will_collect g c =
     let old = c.self.inside in
-    let new = c.record_briefly-answer.new in
+    let new = c.record_in_place-answer.new in
     let l = old.trace.ok.0 in
-    let places = c.if-has_places.ensures in
+    let places = c.if-has_reserved_places.ensures in
     let numbers = subst HasNumbers (sym c.self.view_is) c.if-has_numbers.ensures in
     let ask = c.into_ask-ask.result in
-    let brief = sym c.if-is_brief.ensures in
+    let brief = sym c.if-fits_fast_path.ensures in
     let here = told old.limits old.base old.image new.trace.items new.core in
-    let reply = Answered c.record_briefly-answer.result None in
+    let reply = Answered c.record_in_place-answer.result None in
     let asks = subst (λ h. AsksBy c.args.seat h (Asks ask) reply here) c.self.view_is
     (asks_by old.limits old.base old.image old.trace.items new.trace.items old.core new.core c.args.seat (Asks ask) reply
-    numbers (omega (arith, l, places.0)) c.record_briefly-answer.ensures.writes) in
+    numbers (omega (arith, l, places.0)) c.record_in_place-answer.ensures.writes) in
     let is : Asks ask ≡ c.args.event = ap Asks c.into_ask-ask.ensures.ask ∙ sym c.in-Ask.is in
     subst (λ (event : Event g.row.R.Denot). BookSteps c.args.seat c.args.self.now event reply here) is
     (steps_as_asked c.args.seat c.args.self.now here (Asks ask) reply ask refl (brief_is_no_end ask brief) asks)

@@ -6,14 +6,14 @@ use Rattle.jlr_core.specs.Steps.{IsStep}
 use Rattle.jlr_core.specs.Events.{handed_out, take_up_answered}
 use Rattle.jlr_book.specs.Histories.{HasNumbers}
 use Rattle.jlr_book.specs.Rules.{AsksBy}
-use Rattle.jlr_book.specs.Writing.{Writes}
+use Rattle.jlr_book.specs.Writing.{WritesEntry}
 use Rattle.jlr_book.proofs.Entering.{writes}
 use Rattle.jlr_book.proofs.Histories.{asks_by, enter_goes_on, told}
 use Rattle.jlr_book.proofs.book.Book.take_up_on.Given.{Over}
 use Rattle.jlr_book.proofs.book.Book.take_up_on.Goals as goal
 
 written : (g : Over) (c : goal.After-push_reserved g)
-    → Writes c.args.seat c.self.inside.core c.self.inside.trace.items (Asks ask.TakeUp)
+    → WritesEntry c.args.seat c.self.inside.core c.self.inside.trace.items (Asks ask.TakeUp)
     (Answered (take_up_answered c.take_up-taken.result) (handed_out c.take_up-taken.result))
     c.take_up-taken.new.self c.push_reserved.new.self.items
 written g c =
@@ -37,7 +37,7 @@ invariant_of-self g c =
     let reply = Answered (take_up_answered c.take_up-taken.result) (handed_out c.take_up-taken.result) in
     let l = old.trace.ok.0 in
     let l' = c.push_reserved.new.self.ok.0 in
-    let places = c.if-not-has_places.ensures in
+    let places = c.if-not-has_reserved_places.ensures in
     let numbers = subst HasNumbers (sym c.self.view_is) c.if-not-has_numbers.ensures in
     let x = enter_goes_on old.limits old.base old.image old.trace.items entries' old.core core' c.args.seat (Asks ask.TakeUp) reply
     kept.history (written g c) c.take_up-taken.ensures.cells (omega (arith, numbers, l)) in
@@ -54,7 +54,7 @@ returns g c =
     let entries' = c.push_reserved.new.self.items in
     let reply = Answered (take_up_answered c.take_up-taken.result) (handed_out c.take_up-taken.result) in
     let l = old.trace.ok.0 in
-    let places = c.if-not-has_places.ensures in
+    let places = c.if-not-has_reserved_places.ensures in
     let numbers = subst HasNumbers (sym c.self.view_is) c.if-not-has_numbers.ensures in
     let new = told old.limits old.base old.image entries' core' in
     subst (λ h. AsksBy c.args.seat h (Asks ask.TakeUp) reply new) c.self.view_is

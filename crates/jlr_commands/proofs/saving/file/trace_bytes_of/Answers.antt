@@ -5,7 +5,7 @@ use Rattle.jlr_machine.specs.WellFormed.{IsImage}
 use Rattle.jlr_machine.specs.Run.{Run}
 use Rattle.jlr_trace.specs.declared.file.TraceFile.{TraceFile}
 use Rattle.jlr_trace.specs.Files.{HasSpelling, file_text, history_of, spelled_file}
-use Rattle.jlr_trace.specs.Ranges.{AreLimits}
+use Rattle.jlr_trace.specs.Ranges.{LimitsInRange}
 use Rattle.jlr_commands.specs.Saving.{IsSaved, file_of}
 use Rattle.jlr_commands.proofs.Limits.{are_limits}
 use Rattle.jlr_commands.proofs.saving.file.trace_bytes_of.Goals as goal
@@ -16,7 +16,7 @@ run_has_spelling-requires-clause-image g c = subst IsImage (sym c.in_ok-image.en
 pub run_has_spelling-requires-clause-limits : goal.run_has_spelling-requires-clause-limits
 run_has_spelling-requires-clause-limits g c =
     let h = c.args.book.now in
-    subst AreLimits (sym c.in_ok-image.ensures) (are_limits h.limits h.image c.is_history.ensures.limits_are)
+    subst LimitsInRange (sym c.in_ok-image.ensures) (are_limits h.limits h.image c.is_history.ensures.limits_are)
 
 pub run_has_spelling-requires-clause-run : goal.run_has_spelling-requires-clause-run
 run_has_spelling-requires-clause-run g c =

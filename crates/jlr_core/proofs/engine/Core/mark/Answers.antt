@@ -7,7 +7,7 @@ use Rattle.jlr_machine.specs.WellFormed.{IsWellFormed}
 use Rattle.jlr_machine.specs.Run.{no_choice}
 use Rattle.jlr_state.specs.Machines.{machine_of}
 use Rattle.jlr_state.specs.Waiting.{AllWait}
-use Rattle.jlr_state.specs.Marks.{MarksBy}
+use Rattle.jlr_state.specs.Marks.{AnswersPiece}
 use Rattle.jlr_core.specs.Cores.{Kept, StandsIn}
 use Rattle.jlr_state.proofs.Stepping.{enters}
 use Rattle.jlr_core.proofs.engine.Core.mark.Goals as goal
@@ -38,7 +38,8 @@ returns-clause-step g c =
       memory = search rules;
       table_room = search rules;
       begins = λ none still. no_some Begin none;
-      marking = subst (λ (k : Kept g.row.R.Denot). MarksBy {R = g.row.R.Denot} (Some c.args.budget) k.soft_age k.clock k.machine k.marking
+      marking = subst (λ (k : Kept g.row.R.Denot). AnswersPiece {R = g.row.R.Denot} (Some c.args.budget) k.soft_age k.clock k.machine
+          k.marking
           k.condemned (Marked c.mark.result) c.mark.new.self.heap.marking c.mark.new.self.heap.condemned) c.self.view_is
           (c.mark.result, refl, c.mark.ensures.piece);
       blackens = search rules;

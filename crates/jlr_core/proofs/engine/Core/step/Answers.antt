@@ -4,7 +4,7 @@ use Rattle.jlr_machine.specs.declared.ask.Answer.TheVariants.{Truth}
 use Rattle.jlr_state.specs.Machines.{machine_of}
 use Rattle.jlr_event.specs.Events.{ask_of, answer_in, resource_of_event, resource_of_reply}
 use Rattle.jlr_state.specs.Events.{WantsMemory}
-use Rattle.jlr_state.specs.Marks.{Begins, BlackensNew, MarksBy, budget_of, has_grey}
+use Rattle.jlr_state.specs.Marks.{Begins, BlackensNew, AnswersPiece, budget_of, has_grey}
 use Rattle.jlr_state.specs.Flows.{Moves}
 use Rattle.jlr_core.specs.Cores.{Kept, StandsIn}
 use Rattle.jlr_state.specs.Policy.{KeepsByPolicy, clock_after}
@@ -46,7 +46,7 @@ returns-clause-step g c =
       table_room = search rules;
       begins = subst (λ (k : Kept g.row.R.Denot). Begins ask k.machine (machine_of c.step.new.state) c.step.new.state.heap.marking)
           c.self.view_is c.step.ensures.begins;
-      marking = subst (λ (k : Kept g.row.R.Denot). MarksBy (budget_of c.args.event) k.soft_age k.clock k.machine k.marking k.condemned
+      marking = subst (λ (k : Kept g.row.R.Denot). AnswersPiece (budget_of c.args.event) k.soft_age k.clock k.machine k.marking k.condemned
           c.step.result c.step.new.state.heap.marking c.step.new.state.heap.condemned) c.self.view_is c.step.ensures.marking;
       blackens = subst (λ (k : Kept g.row.R.Denot). BlackensNew c.args.event k.machine k.marking chosen (machine_of c.step.new.state)
           c.step.new.state.heap.marking) c.self.view_is c.step.ensures.blackens;

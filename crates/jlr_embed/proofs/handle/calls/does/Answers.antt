@@ -1,6 +1,6 @@
 use Rattle.std.proofs.Common.{ℕ, subst, sym}
 use Rattle.jlr_event.specs.declared.event.Event.TheVariants.{Ask as Asks}
-use Rattle.jlr_embed.specs.Ways.{Ends}
+use Rattle.jlr_embed.specs.Ways.{EndsOnly}
 use Rattle.jlr_embed.proofs.Carrying.{ended, silent}
 use Rattle.jlr_embed.proofs.handle.calls.does.Goals.{in-Some, in-None}
 use Rattle.jlr_embed.proofs.handle.calls.does.Goals as goal
@@ -11,7 +11,7 @@ returns c =
     let new = c.ask.new.heap.value in
     let event = Asks c.args.asked in
     elim c.match-ask.branch [
-      | in-Some w ↦ subst (λ (status : ℕ). Ends old event status new) (sym w.told-is)
+      | in-Some w ↦ subst (λ (status : ℕ). EndsOnly old event status new) (sym w.told-is)
           (ended old event w.in-Some.answer new w.end-told.result w.in-Some.ensures.asked w.end-told.ensures)
       | in-None w ↦ silent old event new c.match-ask.told w.in-None.ensures.asked.0 w.in-None.ensures.asked.1 w.told-is
     ]

@@ -23,9 +23,9 @@ returns-in-Err-clause-entry g c =
 pub returns-in-Err-clause-memory : goal.returns-in-Err-clause-memory
 returns-in-Err-clause-memory g c =
     λ e.
-    let wanting : c.in-Err.refusal ≡ NoMemory = cc e in
+    let memory_refusal : c.in-Err.refusal ≡ NoMemory = cc e in
     never_memory (machine_of c.args.self.now) (CheckIn c.args.by c.args.outcome) c.in-Err.refusal refl (c.in-Err.ensures c.args.outcome)
-    wanting
+    memory_refusal
 
 pub returns-clause-entry : goal.returns-clause-entry
 returns-clause-entry g c =

@@ -15,5 +15,5 @@ pub returns-in-Err-clause-memory : goal.returns-in-Err-clause-memory
 returns-in-Err-clause-memory g c =
     λ e.
     let outcome = outcome_of c.args.outcome in
-    let wanting : c.in-Err.refusal ≡ NoMemory = cc e in
-    never_memory (machine_of c.args.self.now) (Opened c.args.by outcome) c.in-Err.refusal refl (c.in-Err.ensures outcome) wanting
+    let memory_refusal : c.in-Err.refusal ≡ NoMemory = cc e in
+    never_memory (machine_of c.args.self.now) (Opened c.args.by outcome) c.in-Err.refusal refl (c.in-Err.ensures outcome) memory_refusal

@@ -16,7 +16,7 @@ use Rattle.jlr_prog.proofs.solo.solo.Solo.clean.Goals as goal
 pub returns-in-Some-Ok-Some-clause-turn : goal.returns-in-Some-Ok-Some-clause-turn
 returns-in-Some-Ok-Some-clause-turn g c =
     let old = c.args.self.now in
-    let between = c.take_up_briefly.new.self in
+    let between = c.try_take_up.new.self in
     let new = c.finish.new.self in
     let job = c.in-Some-Ok-Some.job in
     let told = c.finish.ensures.told in
@@ -35,7 +35,7 @@ returns-in-Some-Ok-Some-clause-turn g c =
 pub returns-in-Some-Ok-Some-clause-shorter : goal.returns-in-Some-Ok-Some-clause-shorter
 returns-in-Some-Ok-Some-clause-shorter g c =
     let old = c.args.self.now in
-    let between = c.take_up_briefly.new.self in
+    let between = c.try_take_up.new.self in
     let new = c.finish.new.self in
     let job = c.in-Some-Ok-Some.job in
     let told = c.finish.ensures.told in
@@ -56,7 +56,7 @@ returns-in-Some-Ok-Some-clause-shorter g c =
 pub returns-in-Some-Ok-None-clause-shorter : goal.returns-in-Some-Ok-None-clause-shorter
 returns-in-Some-Ok-None-clause-shorter g c =
     let old = c.args.self.now in
-    let new = c.take_up_briefly.new.self in
+    let new = c.try_take_up.new.self in
     let reply = Answered (Handed Nothing) None in
     let is = c.in-Some-Ok-None.field-0-is ∙ ap Ok c.in-Some-Ok-None.field-0-0-is in
     let does = subst

@@ -12,7 +12,7 @@ use Rattle.jlr_prog.proofs.solo.solo.Solo.hand_over.Goals as goal
 pub returns-in-Some-clause-turn : goal.returns-in-Some-clause-turn
 returns-in-Some-clause-turn g c =
     let old = c.args.self.now in
-    let new = c.hand_over_briefly.new.self in
+    let new = c.try_hand_over.new.self in
     let reply = Answered (Handed c.in-Some.field-0) None in
     let there = subst (λ h. BookSteps c.handler-seat.result h (Asks HandOver) reply new) c.self.view_is c.in-Some.ensures in
     let steps = subst (λ s. BookSteps s old (Asks HandOver) reply new) c.handler-seat.ensures there in
@@ -22,7 +22,7 @@ returns-in-Some-clause-turn g c =
 pub returns-in-Some-clause-shorter : goal.returns-in-Some-clause-shorter
 returns-in-Some-clause-shorter g c =
     let old = c.args.self.now in
-    let new = c.hand_over_briefly.new.self in
+    let new = c.try_hand_over.new.self in
     let reply = Answered (Handed c.in-Some.field-0) None in
     let there = subst (λ h. BookSteps c.handler-seat.result h (Asks HandOver) reply new) c.self.view_is c.in-Some.ensures in
     let steps = subst (λ s. BookSteps s old (Asks HandOver) reply new) c.handler-seat.ensures there in

@@ -8,7 +8,7 @@ pub returns-in-Err : goal.returns-in-Err
 returns-in-Err g c = rw (← c.self.view_is) (record {
   declined = inr (record {
     same = refl;
-    why = elim c.wanting.ensures [
+    why = elim c.memory_refusal.ensures [
       | inl w ↦ inl (w.0, ap (λ (by : Refusal). Answered (Refused by) None) w.1)
       | inr w ↦ inr (w.0, ap (λ (by : Refusal). Answered (Refused by) None) w.1)
     ];

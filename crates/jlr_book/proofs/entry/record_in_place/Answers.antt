@@ -7,7 +7,7 @@ use Rattle.jlr_event.specs.declared.event.Event.TheVariants.{Ask as Asks}
 use Rattle.jlr_event.specs.declared.event.Reply.TheVariants.{Answered}
 use Rattle.jlr_core.specs.Steps.{IsStep}
 use Rattle.jlr_book.proofs.Entering.{entry_by, writes}
-use Rattle.jlr_book.proofs.entry.record_briefly.Goals as goal
+use Rattle.jlr_book.proofs.entry.record_in_place.Goals as goal
 
 -- what stands behind a list is told otherwise
 told_last : (xs : List Entry) (x y : Entry) → slice_set (xs ++ x ∷ []) (length xs) y ≡ xs ++ y ∷ []
