@@ -2,7 +2,8 @@
 //!
 //! A book makes the place of an entry before it asks the core, and declines an ask for which there is no memory or no
 //! number; so nothing changes that is not told. At its limit it cuts: the machine becomes the image from which the
-//! history goes on. It relies on the core and on the image. Memory is taken for entries, and for the image by a cut.
+//! history goes on. It relies on the core and on the image (`image`), which follows behind. Memory is taken for
+//! entries, and for the image by a cut.
 #![tactic(auto)]
 
 pub mod book;

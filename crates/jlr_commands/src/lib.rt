@@ -1,7 +1,8 @@
 //! The commands of the program, and what comes of each.
 //!
 //! `run` and `serve` join a session, or a hall, with its history and its save; `audit` and `stats` read one. Contracts
-//! say that what is saved is the history, and what is told the verdict; the rest is wiring, which tests hold.
+//! say that what is saved is the history, and what is told the verdict; the rest is wiring, which tests hold. The bytes
+//! of a history are made in `saving`.
 #![tactic(auto)]
 
 pub mod audit;

@@ -1,10 +1,12 @@
 -- A call, from what its event did and how it was told.
-use Rattle.std.proofs.Common.{◌≡◌, ℕ, Option, Some, None, subst, sym}
+use Rattle.std.proofs.Common.{◌≡◌, ℕ, Bool, true, false, Option, Some, None, inl, inr, refl, subst, sym}
 use Rattle.jlr_machine.specs.declared.ask.Answer.{Answer}
+use Rattle.jlr_machine.specs.declared.ask.Answer.TheVariants.{Data, Faults, Names, Notes}
 use Rattle.jlr_event.specs.declared.event.Event.{Event}
+use Rattle.jlr_embed.specs.Kinds.{is_end, is_faulted, is_told, is_wrote}
 use Rattle.jlr_embed.specs.Calls.{Carries, HeapOfTokens, closed}
 use Rattle.jlr_embed.specs.OneEvent.{AskedOnce, Carried}
-use Rattle.jlr_embed.specs.Tells.{TellsEnd}
+use Rattle.jlr_embed.specs.Tells.{IsBare, TellsEnd, holds_memory}
 use Rattle.jlr_embed.specs.Ways.{EndsOnly}
 
 pub carried : (old : Option HeapOfTokens) (event : Event ℕ) (answer : Answer) (token : Option ℕ) (new : Option HeapOfTokens)
@@ -24,3 +26,31 @@ pub silent : (old : Option HeapOfTokens) (event : Event ℕ) (new : Option HeapO
     ≡ closed
     → EndsOnly old event status new
 silent old event new status none stays told = subst (λ (o : Option HeapOfTokens). EndsOnly o event status new) (sym none) (told, stays)
+
+-- ---- An answer of a bare kind holds no memory
+
+told_end : (a : Answer) → is_told is_end a ≡ true → holds_memory a ≡ false
+told_end (Data bytes) told = elim told [ ]
+told_end (Names names) told = elim told [ ]
+told_end (Notes notes) told = elim told [ ]
+told_end (Faults faults) told = elim told [ ]
+told_end a told = refl
+
+told_fault : (a : Answer) → is_told is_faulted a ≡ true → holds_memory a ≡ false
+told_fault (Data bytes) told = elim told [ ]
+told_fault (Names names) told = elim told [ ]
+told_fault (Notes notes) told = elim told [ ]
+told_fault (Faults faults) told = elim told [ ]
+told_fault a told = refl
+
+told_wrote : (a : Answer) → is_told is_wrote a ≡ true → holds_memory a ≡ false
+told_wrote (Data bytes) told = elim told [ ]
+told_wrote (Names names) told = elim told [ ]
+told_wrote (Notes notes) told = elim told [ ]
+told_wrote (Faults faults) told = elim told [ ]
+told_wrote a told = refl
+
+pub bare : (kind : Answer → Bool) (a : Answer) → IsBare kind → is_told kind a ≡ true → holds_memory a ≡ false
+bare kind a (inl ends) told = told_end a (subst (λ (k : Answer → Bool). is_told k a ≡ true) ends told)
+bare kind a (inr (inl faulted)) told = told_fault a (subst (λ (k : Answer → Bool). is_told k a ≡ true) faulted told)
+bare kind a (inr (inr wrote)) told = told_wrote a (subst (λ (k : Answer → Bool). is_told k a ≡ true) wrote told)

@@ -1,6 +1,6 @@
 -- How an answer is told: what a call returns, and what stands behind its out pointer, which was `old` and is `new`.
-use Rattle.std.specs.Prelude.{◌≡◌, ◌-◌, ◌==◌, ◌++◌, ℕ, ℤ, Bool, true, false, cond, List, Option, Some, None, length}
-use Rattle.std.specs.Prelude.{replicate, slice_get}
+use Rattle.std.specs.Prelude.{◌≡◌, ◌⊎◌, ◌-◌, ◌==◌, ◌++◌, ℕ, ℤ, Bool, true, false, cond, List, Option, Some, None}
+use Rattle.std.specs.Prelude.{length, replicate, slice_get}
 use Rattle.jlr_types.specs.Numbers.{number_of}
 use Rattle.jlr_types.specs.declared.Fault.{Fault}
 use Rattle.jlr_types.specs.declared.Fault.TheVariants.{NotFound, Denied, Other}
@@ -14,12 +14,25 @@ use Rattle.jlr_machine.specs.declared.ask.Outcome.TheVariants as outcome
 use Rattle.jlr_machine.specs.declared.ask.Handed.{Handed as HandedOver}
 use Rattle.jlr_machine.specs.declared.ask.Handed.TheVariants.{Queued, Lined, Skipped, Nothing}
 use Rattle.jlr_machine.specs.declared.ask.Answer.{Answer}
-use Rattle.jlr_machine.specs.declared.ask.Answer.TheVariants.{AlreadyDone, Handle, Handed, Int, Job, Names, Notes}
+use Rattle.jlr_machine.specs.declared.ask.Answer.TheVariants.{AlreadyDone, Data, Handle, Handed, Int, Job, Names, Notes}
 use Rattle.jlr_machine.specs.declared.ask.Answer.TheVariants.{Faults, Out, Refused, Stat, Truth}
+use Rattle.jlr_embed.specs.Kinds.{is_end, is_faulted, is_wrote}
 use Rattle.jlr_embed.specs.declared.handle.out.Counts.{Counts}
 use Rattle.jlr_embed.specs.declared.handle.out.Failed.{Failed}
 use Rattle.jlr_embed.specs.declared.handle.out.Taken.{Taken}
 use Rattle.jlr_embed.specs.Calls.{idle}
+
+-- bytes and lists lie in memory of their own
+abbrev pub holds_memory : Answer → Bool
+holds_memory (Data bytes) = true
+holds_memory (Names names) = true
+holds_memory (Notes notes) = true
+holds_memory (Faults faults) = true
+holds_memory _ = false
+
+-- of these kinds is the answer of a call that tells nothing but how it ended; none of them holds memory
+abbrev pub IsBare : (Answer → Bool) → Type 0
+IsBare kind = (kind ≡ is_end) ⊎ (kind ≡ is_faulted) ⊎ (kind ≡ is_wrote)
 
 -- nothing but how it ended
 abbrev pub TellsEnd : ℕ → Answer → Type 0

@@ -1,5 +1,5 @@
 //! Whether a machine is well formed, and whether it may be the image at the head of a trace: exactly as the definitions
-//! say it, and without memory.
+//! say it, and without memory. Its objects, mutators, lists and actions are tested in `parts`.
 #![tactic(auto)]
 
 pub mod calls;

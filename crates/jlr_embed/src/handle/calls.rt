@@ -6,7 +6,7 @@ ghost use Rattle.jlr_embed.specs.Kinds.{is_faults, is_handle, is_integer, is_job
 ghost use Rattle.jlr_embed.specs.Kinds.{is_told, is_truth, kind_asked, suits};
 ghost use Rattle.jlr_embed.specs.Calls.{HandsOverOnce, Marks};
 ghost use Rattle.jlr_embed.specs.OneEvent.{AskedOnce, Carried};
-ghost use Rattle.jlr_embed.specs.Tells.{TellsHanded, TellsProgress};
+ghost use Rattle.jlr_embed.specs.Tells.{IsBare, TellsHanded, TellsProgress};
 ghost use Rattle.jlr_embed.specs.Ways.{Adopts, EndsOnly, EndsCarrying, GivesCounts, GivesFailure, GivesHandle};
 ghost use Rattle.jlr_embed.specs.Ways.{GivesInteger};
 ghost use Rattle.jlr_embed.specs.Ways.{GivesJob, GivesName, GivesNote, GivesToken, GivesTruth};
@@ -78,6 +78,7 @@ fn carry(alloc: Global, heap: &mut Heap, event: Event<u64>) -> Option<(Answer, O
 #[inline(always)]
 pub fn does(alloc: Global, heap: &mut Heap, asked: Ask) -> u32
     requires plain { carries_none asked ≡ true }
+    requires bare { IsBare (kind_asked (Some asked)) }
     ensures { EndsOnly heap.old.value (Event.Ask asked) result heap.new.value }
 {
     let told = match ask(alloc, heap, &asked) {
@@ -206,6 +207,7 @@ pub fn failures(alloc: Global, heap: &mut Heap, asked: Ask, index: usize, out: &
 
 /// A call that may carry a token, and tells nothing but how it ended.
 pub fn brings(alloc: Global, heap: &mut Heap, event: Event<u64>) -> u32
+    requires bare { IsBare (kind_asked (ask_of event)) }
     requires asks { is_none (ask_of event) ≡ false }
     ensures { EndsCarrying heap.old.value event result heap.new.value }
 {

@@ -1,11 +1,12 @@
 //! How an answer is told.
-ghost use Rattle.std.specs.Prelude.{◌≡◌, ◌≤◌, length, true};
+ghost use Rattle.std.specs.Prelude.{◌≡◌, ◌≤◌, false, length, true};
 ghost use Rattle.jlr_types.specs.Numbers.{number_of};
 ghost use Rattle.jlr_embed.specs.Kinds.{is_stat, is_faults, is_handle, is_integer, is_job, is_names, is_notes, is_out};
 ghost use Rattle.jlr_embed.specs.Kinds.{is_refused, is_told, is_truth, job_suits, suits};
 ghost use Rattle.jlr_embed.specs.Tells.{TellsCounts, TellsEnd, TellsFault, TellsHanded, TellsHandle, TellsInteger};
 ghost use Rattle.jlr_embed.specs.Tells.{TellsJob, TellsName, TellsNote, TellsProgress, TellsToken, TellsTruth};
-ghost use Rattle.jlr_embed.specs.Tells.{TellsWork, fault_number, fault_numbered, outcome_numbered, padded};
+ghost use Rattle.jlr_embed.specs.Tells.{TellsWork, fault_number, fault_numbered, holds_memory};
+ghost use Rattle.jlr_embed.specs.Tells.{outcome_numbered, padded};
 
 use crate::handle::out::{Counts, Failed, Taken};
 use crate::handle::status::IDLE;
@@ -13,9 +14,10 @@ use jlr_machine::ask::{Answer, Handed, Outcome};
 use jlr_types::{ActionNo, Fault, Progress, Refusal, Work};
 use std::mem;
 
-/// How a call ended. It is for answers that hold no memory, which are not let go.
+/// How a call ended. The answer holds no memory, so that nothing is lost where it is not let go.
 #[inline(always)]
 pub(crate) fn end(answer: Answer) -> u32
+    requires { holds_memory answer ≡ false }
     ensures { TellsEnd result answer }
 {
     match answer {
