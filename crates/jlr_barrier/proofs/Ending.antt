@@ -9,7 +9,7 @@ use Rattle.jlr_machine.specs.Objects.{Heap, Table, ◌∈◌}
 use Rattle.jlr_laws.proofs.Sets.{nothing}
 use Rattle.jlr_laws.proofs.Frames.{no_some, some_same}
 use Rattle.jlr_marks.specs.declared.part.Part.{Part}
-use Rattle.jlr_marks.specs.Marking.{Marking, IsMarked, Shaded, is_marked, next_of, place, place_in, unmarked, upcoming}
+use Rattle.jlr_marks.specs.Marking.{Marking, IsMarked, Shaded, is_marked, grey_next, place, place_in, unmarked, upcoming}
 use Rattle.jlr_marks.proofs.Counting.{none_set}
 use Rattle.jlr_marks.proofs.Shading.{same_marking}
 use Rattle.jlr_machine.specs.Edges.{active_cleanables}
@@ -57,7 +57,7 @@ holds_still g c m n h = record { long = h.long; objects = h.objects; roots = h.r
 
 pub upcoming_grey : (m : Marking) → ((p : Part) → m.part ≡ Some p → p.slot ∈ m.grey) → (s : ℕ) → upcoming m ≡ Some s → s ∈ m.grey
 upcoming_grey m started s e =
-    elim m.part as (λ o. m.part ≡ o → next_of o m.grey ≡ Some s → s ∈ m.grey) [
+    elim m.part as (λ o. m.part ≡ o → grey_next o m.grey ≡ Some s → s ∈ m.grey) [
       | None ↦ λ none last. member_in_list m.grey (length m.grey - 1) s s last refl
       | Some p ↦ λ there first. subst (λ z. z ∈ m.grey) (some_same p.slot s first) (started p there)
     ] refl e

@@ -14,7 +14,8 @@ use Rattle.jlr_machine.specs.Objects.{with_members, with_reference, ◌∈◌}
 use Rattle.jlr_machine.specs.Edges.{strong_edges, is_active, is_own_root}
 use Rattle.jlr_machine.specs.Calls.{spent, unreferred}
 use Rattle.jlr_machine.specs.Refusals.{is_cleanable, is_queue, is_reference}
-use Rattle.jlr_cells.specs.Contents.{in_clean_state, in_state, member_in, next_in, next_of, unregistered, watching, without_referent}
+use Rattle.jlr_cells.specs.Contents.{in_clean_state, in_state, member_in, next_in, next_in_queue, unregistered, watching}
+use Rattle.jlr_cells.specs.Contents.{cleanable_without_referent}
 use Rattle.jlr_laws.proofs.Sets.{nothing, in_cons, in_rest}
 use Rattle.jlr_laws.proofs.Clearing.{in_append, in_left, in_option}
 use Rattle.jlr_laws.proofs.Frames.{no_some, some_same}
@@ -111,12 +112,12 @@ module _ (f : CleanableOf → CleanableOf) where
 pub unreferred_retouches : Retouches (with_reference unreferred)
 unreferred_retouches = of_reference unreferred (λ r. refl) (λ r y e. no_some y e)
 
-pub without_referent_retouches : Retouches (with_cleanable without_referent)
+pub without_referent_retouches : Retouches (with_cleanable cleanable_without_referent)
 without_referent_retouches = record {
-  fields = cleanable_fields without_referent;
-  edges = cleanable_edges without_referent;
-  refers = cleanable_refers without_referent (λ c y e. no_some y e);
-  own = cleanable_own without_referent (λ c h. h);
+  fields = cleanable_fields cleanable_without_referent;
+  edges = cleanable_edges cleanable_without_referent;
+  refers = cleanable_refers cleanable_without_referent (λ c y e. no_some y e);
+  own = cleanable_own cleanable_without_referent (λ c h. h);
 }
 
 pub spent_retouches : Retouches (with_cleanable spent)
@@ -183,7 +184,7 @@ module _ (k : Known) (a b s : ℕ) (f : FitsTogether k a b) where
 
   -- ---- A reference in another state, with the same queue ahead
 
-  same_ahead : (state : RefState) (o : Object) → next_of (with_reference (in_state state) o) ≡ next_of o
+  same_ahead : (state : RefState) (o : Object) → next_in_queue (with_reference (in_state state) o) ≡ next_in_queue o
       → strong_edges (with_reference (in_state state) o) ≡ strong_edges o
   same_ahead state (Plain fields) e = refl
   same_ahead state (Reference r) e = ap option_to_list e
@@ -243,7 +244,8 @@ module _ (k : Known) (a b s : ℕ) (f : FitsTogether k a b) where
   unregistered_gains (Cleanable c) y h = h
   unregistered_gains (Guard g) y h = h
 
-  unregistered_loses : (o : Object) (y : ℕ) → y ∈ strong_edges o → (y ∈ strong_edges (with_reference unregistered o)) ⊎ (next_of o ≡ Some y)
+  unregistered_loses : (o : Object) (y : ℕ) → y ∈ strong_edges o → (y ∈ strong_edges (with_reference unregistered o))
+      ⊎ (next_in_queue o ≡ Some y)
   unregistered_loses (Plain fields) y h = inl h
   unregistered_loses (Reference r) y h = inr (in_option y (queue_ahead r) h)
   unregistered_loses (Queue members) y h = inl h

@@ -10,8 +10,8 @@ use Rattle.jlr_machine.specs.Lookups.{bound, unbound}
 use Rattle.jlr_machine.specs.Calls.{fresh_session}
 use Rattle.jlr_machine.specs.Refusals.{is_queue, is_reference}
 use Rattle.jlr_cells.specs.Contents.{member_in, next_in, unregistered}
-use Rattle.jlr_roots.specs.Sessions.{with_call, with_slot, without_handle}
-use Rattle.jlr_roots.specs.Walk.{slots_held, slots_of}
+use Rattle.jlr_roots.specs.Sessions.{session_in_call, with_slot, without_handle}
+use Rattle.jlr_roots.specs.Walk.{slots_held, slots_of_session}
 use Rattle.jlr_roots.specs.Naming.{named}
 use Rattle.jlr_laws.proofs.Frames.{no_some, some_same}
 use Rattle.jlr_marks.specs.Marking.{Marking, Shaded}
@@ -58,7 +58,7 @@ module _ (k : Known) (a b : ℕ) (f : FitsTogether k a b) where
   joined_fits mutators m e =
       other_mutators k mutators a b f
       (λ y h. other_session k.graph.mutators m (Some fresh_session) Safe
-      (λ s same y h. holds_nothing y (subst (λ (t : Session). y ∈ slots_of t) (sym (some_same fresh_session s same)) h)) y
+      (λ s same y h. holds_nothing y (subst (λ (t : Session). y ∈ slots_of_session t) (sym (some_same fresh_session s same)) h)) y
       (subst (λ l. y ∈ slots_held l) e h))
 
   pub left_fits : (mutators : Table Session) (m : ℕ) → mutators ≡ empty_at k.graph.mutators m → FitsTogether (with_mutators mutators) a b
@@ -92,11 +92,11 @@ module _ (k : Known) (a b : ℕ) (f : FitsTogether k a b) where
       (subst (λ l. y ∈ slots_held l) e h))
 
   pub called_fits : (mutators : Table Session) (m : ℕ) (fence : Option ℕ) (call : Call)
-      → mutators ≡ change_at k.graph.mutators m (with_call fence call) → ((s : ℕ) → fence ≡ Some s → IsInHand k s)
+      → mutators ≡ change_at k.graph.mutators m (session_in_call fence call) → ((s : ℕ) → fence ≡ Some s → IsInHand k s)
       → FitsTogether (with_mutators mutators) a b
   called_fits mutators m fence call e held =
       other_mutators k mutators a b f
-      (λ y h. changed_session k.graph.mutators m (with_call fence call) Safe
+      (λ y h. changed_session k.graph.mutators m (session_in_call fence call) Safe
       (λ t y h. elim (holds_by_call fence call t y h) [ inl o ↦ inl o | inr there ↦ inr (in_hand_safe k f.snapshot y (held y there)) ])
       y (subst (λ l. y ∈ slots_held l) e h))
 
@@ -112,7 +112,7 @@ module _ (k : Known) (a b : ℕ) (f : FitsTogether k a b) where
 
 pub ended_fits : (k : Known) (a b : ℕ) (n : Marking) (mutators : Table Session) (m : ℕ) (fence : Option ℕ) → FitsTogether k a b
     → fence ≡ fence_at k.graph.mutators m → Shaded (λ x. fence ≡ Some x) k.marking n
-    → mutators ≡ change_at k.graph.mutators m (with_call None Free)
+    → mutators ≡ change_at k.graph.mutators m (session_in_call None Free)
     → ((s : ℕ) → fence_at k.graph.mutators m ≡ Some s → IsObject k.graph.objects s)
     → FitsTogether (record k { graph = record k.graph { mutators = mutators }; marking = n }) a b
 ended_fits k a b n mutators m fence f was shaded e objects =

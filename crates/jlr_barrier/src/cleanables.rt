@@ -4,7 +4,7 @@ ghost use Rattle.jlr_machine.specs.Objects.{as_cleanable, as_guard, at, change_a
 ghost use Rattle.jlr_machine.specs.Objects.{with_cleanable};
 ghost use Rattle.jlr_machine.specs.Refusals.{is_cleanable, is_guard};
 ghost use Rattle.jlr_machine.specs.Calls.{spent};
-ghost use Rattle.jlr_cells.specs.Contents.{in_clean_state, without_referent};
+ghost use Rattle.jlr_cells.specs.Contents.{in_clean_state, cleanable_without_referent};
 ghost use Rattle.jlr_machine.specs.Edges.{is_active};
 ghost use Rattle.jlr_barrier.specs.Graphs.{with_objects};
 ghost use Rattle.jlr_barrier.specs.Snapshots.{IsInHand};
@@ -66,7 +66,7 @@ impl Heap {
     pub fn clear_cleanable(&mut self, slot: Slot)
         requires { IsTrue (some_and is_cleanable (at self.old.graph.objects slot)) }
         ensures graph { self.new.graph ≡ with_objects self.old.graph
-            (change_at self.old.graph.objects slot (with_cleanable without_referent)) }
+            (change_at self.old.graph.objects slot (with_cleanable cleanable_without_referent)) }
         ensures clock { self.new.clock ≡ self.old.clock }
         ensures marking { self.new.marking ≡ self.old.marking }
         ensures condemned { self.new.condemned ≡ self.old.condemned }

@@ -4,7 +4,8 @@ ghost use Rattle.std.specs.Prelude.{option_and_then, option_map};
 ghost use Rattle.jlr_machine.specs.declared.machine.Call.TheVariants.{Free};
 ghost use Rattle.jlr_machine.specs.Objects.{at, change_at, empty_at, set_at};
 ghost use Rattle.jlr_machine.specs.Calls.{fresh_session};
-ghost use Rattle.jlr_roots.specs.Sessions.{free_handle, has_call, has_free_handle, slot_held, with_call, with_slot};
+ghost use Rattle.jlr_roots.specs.Sessions.{lowest_handle, session_has_call, session_has_free_handle, slot_held};
+ghost use Rattle.jlr_roots.specs.Sessions.{session_in_call, with_slot};
 ghost use Rattle.jlr_roots.specs.Sessions.{without_handle};
 ghost use Rattle.jlr_marks.specs.Marking.{Shaded};
 ghost use Rattle.jlr_barrier.specs.Graphs.{fence_at, with_mutators};
@@ -58,7 +59,7 @@ impl Heap {
 
     /// Whether a mutator is joined and has a free handle: fewer than 250 are in use.
     pub fn has_free_handle(&self, mutator: Mutator) -> bool
-        ensures { result ≡ has_free_handle self.now.graph.mutators mutator }
+        ensures { result ≡ session_has_free_handle self.now.graph.mutators mutator }
     {
         self.roots.has_free_handle(mutator)
     }
@@ -67,9 +68,9 @@ impl Heap {
     pub fn put_handle(&mut self, mutator: Mutator, slot: Slot) -> Option<Handle>
         requires joined { IsTrue (is_some (at self.old.graph.mutators mutator)) }
         requires held { IsInHand self.old slot }
-        ensures room { is_some result ≡ has_free_handle self.old.graph.mutators mutator }
+        ensures room { is_some result ≡ session_has_free_handle self.old.graph.mutators mutator }
         ensures none { IfNone result (self.new.graph ≡ self.old.graph) }
-        ensures lowest { IfSome result (λ handle. handle ≡ free_handle self.old.graph.mutators mutator) }
+        ensures lowest { IfSome result (λ handle. handle ≡ lowest_handle self.old.graph.mutators mutator) }
         ensures held { IfSome result (λ handle. self.new.graph
             ≡ with_mutators self.old.graph (change_at self.old.graph.mutators mutator (with_slot handle slot))) }
         ensures clock { self.new.clock ≡ self.old.clock }
@@ -114,7 +115,7 @@ impl Heap {
 
     /// Whether a mutator is joined and has a call in flight.
     pub fn has_call(&self, mutator: Mutator) -> bool
-        ensures { result ≡ has_call self.now.graph.mutators mutator }
+        ensures { result ≡ session_has_call self.now.graph.mutators mutator }
     {
         self.roots.has_call(mutator)
     }
@@ -124,7 +125,7 @@ impl Heap {
         requires joined { IsTrue (is_some (at self.old.graph.mutators mutator)) }
         requires held { (s : ℕ) → fence ≡ Some s → IsInHand self.old s }
         ensures graph { self.new.graph ≡ with_mutators self.old.graph
-            (change_at self.old.graph.mutators mutator (with_call fence call)) }
+            (change_at self.old.graph.mutators mutator (session_in_call fence call)) }
         ensures clock { self.new.clock ≡ self.old.clock }
         ensures marking { self.new.marking ≡ self.old.marking }
         ensures condemned { self.new.condemned ≡ self.old.condemned }
@@ -139,7 +140,7 @@ impl Heap {
         requires object { (s : ℕ) → fence_at self.old.graph.mutators mutator ≡ Some s
             → IsObject self.old.graph.objects s }
         ensures graph { self.new.graph ≡ with_mutators self.old.graph
-            (change_at self.old.graph.mutators mutator (with_call None Free)) }
+            (change_at self.old.graph.mutators mutator (session_in_call None Free)) }
         ensures clock { self.new.clock ≡ self.old.clock }
         ensures shaded { Shaded (λ s. fence_at self.old.graph.mutators mutator ≡ Some s) self.old.marking
             self.new.marking }

@@ -12,7 +12,7 @@ use Rattle.jlr_machine.specs.Run.{Run, empty}
 use Rattle.jlr_laws.proofs.Empty.{empty_is_well_formed}
 use Rattle.jlr_laws.proofs.Frames.{no_some}
 use Rattle.jlr_plain.specs.Unseen.{unseen}
-use Rattle.jlr_book.specs.Led.{closed, led, shut, LeadsOn}
+use Rattle.jlr_book.specs.Led.{with_cycle_closed, led, shut, LeadsOn}
 use Rattle.jlr_book.specs.ImageKeeping.{image_from, kept_from, AreEmptyCells}
 use Rattle.std.specs.Global.{Vec}
 use Rattle.std.specs.Vec.{vec_len}
@@ -44,12 +44,12 @@ starts limits =
 
 -- ---- At a cut
 
-shut_is_closed : (n m : Machine) → n ≡ unseen m → closed n ≡ shut n
-shut_is_closed n m same = ap {A = Machine} {B = Machine} closed same ∙ sym (ap {A = Machine} {B = Machine} shut same)
+shut_is_closed : (n m : Machine) → n ≡ unseen m → with_cycle_closed n ≡ shut n
+shut_is_closed n m same = ap {A = Machine} {B = Machine} with_cycle_closed same ∙ sym (ap {A = Machine} {B = Machine} shut same)
 
 -- what is kept is the image, once all is followed and the cycle is closed
 kept_is : (limits : Limits) (kept : Option Machine) → LeadsOn (kept_from limits kept) []
-    → kept_from limits (option_map closed kept) ≡ shut (kept_from limits kept)
+    → kept_from limits (option_map with_cycle_closed kept) ≡ shut (kept_from limits kept)
 kept_is limits None h = refl
 kept_is limits (Some n) h = shut_is_closed n h.machine h.same
 
@@ -58,7 +58,7 @@ led_from x image m entries is run = led_by_run (shut x) m entries (subst (λ (y 
 
 pub takes_over : (limits : Limits) (kept : Option Machine) (image m : Machine) (rest entries : List Entry)
     → LeadsOn (kept_from limits kept) rest → rest ≡ [] → image_from limits kept rest ≡ image → Run image entries m
-    → image_from limits (option_map closed kept) entries ≡ shut m
+    → image_from limits (option_map with_cycle_closed kept) entries ≡ shut m
 takes_over limits kept image m rest entries leads none is run =
     let here = subst (LeadsOn (kept_from limits kept)) none leads in
     let shut_here : image ≡ shut (kept_from limits kept) = sym is

@@ -11,8 +11,8 @@ abbrev pub shut : Machine → Machine
 shut m = record m { cycle_open = false; seen = [] }
 
 -- and with what was seen
-abbrev pub closed : Machine → Machine
-closed m = record m { cycle_open = false }
+abbrev pub with_cycle_closed : Machine → Machine
+with_cycle_closed m = record m { cycle_open = false }
 
 -- the machine to which entries lead
 abbrev pub led : Machine → List Entry → Machine

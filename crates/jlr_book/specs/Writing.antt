@@ -46,6 +46,6 @@ pub record Pieces {R : Type 0} (old : History R) (event : Event R) (reply : Repl
   pub step : IsStep old.core event reply chosen new.core
   pub stays : new ≡ record old { core = new.core }
 
-abbrev pub refuses : Answer → Bool
-refuses (Refused by) = true
-refuses answer = false
+abbrev pub is_refusing : Answer → Bool
+is_refusing (Refused by) = true
+is_refusing answer = false

@@ -109,13 +109,13 @@ referent_in o = option_and_then (λ r. r.referent) (option_and_then as_reference
 
 -- what an object leads to beside fields and members: a reference to the queue that it may still be added to, a guard to
 -- its cleanable
-abbrev pub next_of : Object → Option ℕ
-next_of (ReferenceObject r) = queue_ahead r
-next_of (GuardObject g) = Some g.cleanable
-next_of _ = None
+abbrev pub next_in_queue : Object → Option ℕ
+next_in_queue (ReferenceObject r) = queue_ahead r
+next_in_queue (GuardObject g) = Some g.cleanable
+next_in_queue _ = None
 
 abbrev pub next_in : Option Object → Option ℕ
-next_in o = option_and_then next_of o
+next_in o = option_and_then next_in_queue o
 
 -- a reference in another state, and one that is registered with no queue any more
 abbrev pub in_state : RefState → ReferenceOf → ReferenceOf
@@ -128,8 +128,8 @@ unregistered r = record r { queue = None }
 abbrev pub in_clean_state : CleanState → CleanableOf → CleanableOf
 in_clean_state state c = record c { state = state }
 
-abbrev pub without_referent : CleanableOf → CleanableOf
-without_referent c = record c { referent = None }
+abbrev pub cleanable_without_referent : CleanableOf → CleanableOf
+cleanable_without_referent c = record c { referent = None }
 
 -- and one that waits for an object
 abbrev pub watching : ℕ → CleanableOf → CleanableOf

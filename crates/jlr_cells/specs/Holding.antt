@@ -15,8 +15,8 @@ abbrev pub all_free : ℕ → Holding
 all_free cells = record { objects = replicate cells None; condemned = 0 }
 
 -- how many cells are not free
-abbrev pub in_use : Holding → ℕ
-in_use h = occupied h.objects + h.condemned
+abbrev pub cells_in_use : Holding → ℕ
+cells_in_use h = occupied h.objects + h.condemned
 
 -- Something lies in each occupied cell. The listed ones are occupied, and the queues elsewhere have no members. No
 -- array lies in a free cell: one that is not used

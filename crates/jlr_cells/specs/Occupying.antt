@@ -14,8 +14,8 @@ abbrev pub taken : Occupied → ℕ
 taken o = length (slots_of o.places)
 
 -- so many cells, all free
-abbrev pub all_free : ℕ → Occupied
-all_free cells = record { places = replicate cells false; used = replicate cells false; condemned = 0 }
+abbrev pub none_occupied : ℕ → Occupied
+none_occupied cells = record { places = replicate cells false; used = replicate cells false; condemned = 0 }
 
 -- The used cells are those that hold an object and those that are condemned. So many are free
 pub record AreUsed (o : Occupied) (free : ℕ) : Type 0 where

@@ -8,7 +8,8 @@ ghost use Rattle.jlr_machine.specs.declared.object.Object.TheVariants.{Plain};
 ghost use Rattle.jlr_machine.specs.declared.object.Contents.TheVariants.{Elements as ElementsOf};
 ghost use Rattle.jlr_machine.specs.Calls.{spent, unreferred};
 ghost use Rattle.jlr_cells.specs.Contents.{field_in, is_array, in_clean_state, in_state, kind_in, next_in, object_in};
-ghost use Rattle.jlr_cells.specs.Contents.{object_of, referent_in, unregistered, watching, with_list, without_referent};
+ghost use Rattle.jlr_cells.specs.Contents.{object_of, referent_in, unregistered, watching, with_list};
+ghost use Rattle.jlr_cells.specs.Contents.{cleanable_without_referent};
 ghost use Rattle.jlr_links.specs.Lists.{list_at};
 ghost use Rattle.jlr_cells.specs.Links.{links_of, no_links};
 
@@ -205,7 +206,7 @@ impl Cell {
     /// A cleanable loses its referent.
     pub(crate) fn clear_cleanable(&mut self)
         requires { IsTrue (some_and is_cleanable (object_in self.old)) }
-        ensures new { object_in self.new ≡ option_map (with_cleanable without_referent) (object_in self.old) }
+        ensures new { object_in self.new ≡ option_map (with_cleanable cleanable_without_referent) (object_in self.old) }
         ensures kind { kind_in self.new ≡ kind_in self.old }
     {
         match self {

@@ -14,7 +14,7 @@ ghost use Rattle.jlr_machine.specs.Refusals.{is_cleanable, is_guard, is_plain, i
 ghost use Rattle.jlr_machine.specs.Calls.{spent, unreferred};
 ghost use Rattle.jlr_cells.specs.Contents.{field_at, is_array, is_ref, in_clean_state, in_state, kind_of, member_in};
 ghost use Rattle.jlr_cells.specs.Contents.{members_in, object_in, object_of, objects_in, referent_in, unregistered};
-ghost use Rattle.jlr_cells.specs.Contents.{watching, with_list, with_lists, without_referent};
+ghost use Rattle.jlr_cells.specs.Contents.{watching, with_list, with_lists, cleanable_without_referent};
 ghost use Rattle.jlr_cells.specs.Links.{cell_links, linked, linked_in, no_links};
 ghost use Rattle.jlr_machine.specs.declared.object.Object.TheVariants.{Plain};
 ghost use Rattle.jlr_machine.specs.declared.object.Contents.TheVariants.{Elements as ElementsOf};
@@ -341,7 +341,7 @@ impl Store {
     /// The cleanable at a slot loses its referent.
     pub fn clear_cleanable(&mut self, slot: Slot)
         requires { IsTrue (some_and is_cleanable (at self.old slot)) }
-        ensures { self.new ≡ change_at self.old slot (with_cleanable without_referent) }
+        ensures { self.new ≡ change_at self.old slot (with_cleanable cleanable_without_referent) }
     {
         let cell = &mut self.cells[slot.number() as usize];
         cell.clear_cleanable();

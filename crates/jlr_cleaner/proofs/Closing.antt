@@ -12,7 +12,8 @@ use Rattle.jlr_machine.specs.declared.machine.ResourceState.TheVariants.{Closing
 use Rattle.jlr_machine.specs.Lookups.{rid_of, with_job, without_job, with_resource}
 use Rattle.jlr_resource.specs.declared.place.Kept.{Kept}
 use Rattle.jlr_resource.specs.declared.place.Kept.TheVariants as kept
-use Rattle.jlr_resource.specs.Resources.{Resources, changed, removed, ended, in_state, resource_in, resources, state_at, state_of}
+use Rattle.jlr_resource.specs.Resources.{Resources, changed, removed, ended, resource_in_state, resource_in, resources, resource_state_at}
+use Rattle.jlr_resource.specs.Resources.{state_of}
 use Rattle.jlr_resource.proofs.Listed.{resources_changed, resources_ended}
 use Rattle.jlr_cleaner.specs.Jobs.{job_in}
 use Rattle.jlr_cleaner.specs.Cleanings.{AreClosing, HasWork, IsInState, table_closed, table_closing}
@@ -20,20 +21,22 @@ use Rattle.jlr_cleaner.specs.Cleanings.{AreClosing, HasWork, IsInState, table_cl
 -- ---- A change of one resource leaves the others
 
 other_stays : (rs : List Resource) (rid : ℕ) (s : ResourceState) (other : ℕ) → other ≢ rid
-    → resource_in (in_state rs rid s) other ≡ resource_in rs other
+    → resource_in (resource_in_state rs rid s) other ≡ resource_in rs other
 other_stays [] rid s other apart = refl
 other_stays (r ∷ rs) rid s other apart =
-    elim (r.rid == rid) as (λ b. r.rid == rid ≡ b → resource_in (cond b (record r { state = s }) r ∷ in_state rs rid s) other ≡ cond
+    elim (r.rid == rid) as (λ b. r.rid == rid ≡ b → resource_in (cond b (record r { state = s }) r ∷ resource_in_state rs rid s) other
+    ≡ cond
     (r.rid == other) (Some r) (resource_in rs other)) [
       | true ↦ λ same. rw (ne_eqb r.rid other (λ e. apart (sym e ∙ eqb-true r.rid rid same))) (other_stays rs rid s other apart)
       | false ↦ λ _. rw (other_stays rs rid s other apart) refl
     ] refl
 
 this_goes : (rs : List Resource) (rid : ℕ) (s : ResourceState)
-    → resource_in (in_state rs rid s) rid ≡ option_map (λ (r : Resource). record r { state = s }) (resource_in rs rid)
+    → resource_in (resource_in_state rs rid s) rid ≡ option_map (λ (r : Resource). record r { state = s }) (resource_in rs rid)
 this_goes [] rid s = refl
 this_goes (r ∷ rs) rid s =
-    elim (r.rid == rid) as (λ b. r.rid == rid ≡ b → resource_in (cond b (record r { state = s }) r ∷ in_state rs rid s) rid ≡ option_map
+    elim (r.rid == rid) as (λ b. r.rid == rid ≡ b → resource_in (cond b (record r { state = s }) r ∷ resource_in_state rs rid s) rid
+    ≡ option_map
     (λ (x : Resource). record x { state = s }) (cond b (Some r) (resource_in rs rid))) [
       | true ↦ λ same. rw same refl
       | false ↦ λ apart. rw apart (this_goes rs rid s)
@@ -81,14 +84,14 @@ module _ {R : Type 0} where
   in_state_of t action s (Note n) has = tt
   in_state_of t action s (WorkOn rid) has = ap (option_map (λ r. r.state)) has
 
-  not_this : (t : Resources R) (action rid : ℕ) (work : Work) → state_at t rid ≢ Some Closing → HasWork t action Closing work
+  not_this : (t : Resources R) (action rid : ℕ) (work : Work) → resource_state_at t rid ≢ Some Closing → HasWork t action Closing work
       → rid_of work ≢ Some rid
   not_this t action rid (Note n) other has = λ e. absurd (cc e)
   not_this t action rid (WorkOn r) other has =
       λ e. (let same : r ≡ rid = cc in other (rw same at (in_state_of t action Closing (WorkOn r) has)))
 
   -- a resource that is not Closing is no running job's
-  pub apart_by_state : (t : Resources R) (rid : ℕ) → state_at t rid ≢ Some Closing → (jobs : List Job) → AreClosing t jobs
+  pub apart_by_state : (t : Resources R) (rid : ℕ) → resource_state_at t rid ≢ Some Closing → (jobs : List Job) → AreClosing t jobs
       → AllByRecursion (IsApartFrom rid) jobs
   apart_by_state t rid other [] closing = tt
   apart_by_state t rid other (job ∷ jobs) closing =
@@ -172,20 +175,21 @@ module _ {R : Type 0} where
 
   -- ---- The other calls of the table, at a resource that is not Closing
 
-  module _ (t t' : Resources R) (rid : ℕ) (jobs : List Job) (other : state_at t rid ≢ Some Closing) (closing : AreClosing t jobs) where
-    pub closing_in_state : (s : ResourceState) → resources t' ≡ in_state (resources t) rid s → AreClosing t' jobs
-    closing_in_state s became = closing_kept t t' rid (λ r apart. rw became (other_stays (resources t) rid s r apart)) jobs
-        (apart_by_state t rid other jobs closing) closing
+  module _ (t t' : Resources R) (rid : ℕ) (jobs : List Job) (other : resource_state_at t rid ≢ Some Closing) (closing : AreClosing t jobs)
+    where
+      pub closing_in_state : (s : ResourceState) → resources t' ≡ resource_in_state (resources t) rid s → AreClosing t' jobs
+      closing_in_state s became = closing_kept t t' rid (λ r apart. rw became (other_stays (resources t) rid s r apart)) jobs
+          (apart_by_state t rid other jobs closing) closing
 
-    pub closing_ended : resources t' ≡ ended (resources t) rid → AreClosing t' jobs
-    closing_ended became = closing_kept t t' rid (λ r apart. rw became (other_left (resources t) rid r apart)) jobs
-        (apart_by_state t rid other jobs closing) closing
+      pub closing_ended : resources t' ≡ ended (resources t) rid → AreClosing t' jobs
+      closing_ended became = closing_kept t t' rid (λ r apart. rw became (other_left (resources t) rid r apart)) jobs
+          (apart_by_state t rid other jobs closing) closing
 
-    pub closing_new : (action : ℕ) (s : ResourceState)
-        → resources t' ≡ with_resource (resources t) (record { rid = rid; action = action; state = s }) → AreClosing t' jobs
-    closing_new action s became = closing_kept t t' rid
-        (λ r apart. rw became (other_before (resources t) (record { rid = rid; action = action; state = s }) r apart)) jobs
-        (apart_by_state t rid other jobs closing) closing
+      pub closing_new : (action : ℕ) (s : ResourceState)
+          → resources t' ≡ with_resource (resources t) (record { rid = rid; action = action; state = s }) → AreClosing t' jobs
+      closing_new action s became = closing_kept t t' rid
+          (λ r apart. rw became (other_before (resources t) (record { rid = rid; action = action; state = s }) r apart)) jobs
+          (apart_by_state t rid other jobs closing) closing
 
   work_same : (t t' : Resources R) → t'.held ≡ t.held → (action : ℕ) (s : ResourceState) (work : Work) → HasWork t action s work
       → HasWork t' action s work

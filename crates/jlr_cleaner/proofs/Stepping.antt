@@ -18,7 +18,7 @@ use Rattle.jlr_resource.proofs.Listed.{resources_changed, resources_ended}
 use Rattle.jlr_cleaner.specs.declared.outcomes.Outcomes.{Outcomes}
 use Rattle.jlr_cleaner.specs.Jobs.{is_running, job_in}
 use Rattle.jlr_cleaner.specs.Outcomes.{recorded}
-use Rattle.jlr_cleaner.specs.Cleanings.{Cleanings, after_finish, after_take_up, machine_with, table_closed}
+use Rattle.jlr_cleaner.specs.Cleanings.{Cleanings, after_finish, after_take_up, machine_of_cleanings, table_closed}
 
 -- ---- The job that was added, and the one that was found
 
@@ -56,8 +56,9 @@ one_outcome o action work (Failed fault) = omega arith
 
 module _ {R : Type 0} where
   taken_work : (c : Cleanings R) (m : Machine) (place s by action : ℕ) (work : Work)
-      → machine_with (after_take_up c place (record { action = action; work = work; by = by })) (with_object m s (with_cleanable spent))
-      ≡ with_work_state (record (with_object (machine_with c m) s (with_cleanable spent)) {
+      → machine_of_cleanings (after_take_up c place (record { action = action; work = work; by = by }))
+      (with_object m s (with_cleanable spent))
+      ≡ with_work_state (record (with_object (machine_of_cleanings c m) s (with_cleanable spent)) {
         jobs = with_job c.jobs
             (record { action = action; work = work; by = by });
         taken = c.taken + 1;
@@ -66,20 +67,20 @@ module _ {R : Type 0} where
   taken_work c m place s by action (WorkOn rid) = rw (resources_changed c.table.held rid kept.Closing) refl
 
   pub machine_taken : (c : Cleanings R) (place by action : ℕ) (work : Work) (m : Machine) (s : ℕ) (d : Cleanable) → d.action ≡ action
-      → d.work ≡ work → machine_with (after_take_up c place (record { action = action; work = work; by = by }))
-      (with_object m s (with_cleanable spent)) ≡ taken_up (machine_with c m) by s d
+      → d.work ≡ work → machine_of_cleanings (after_take_up c place (record { action = action; work = work; by = by }))
+      (with_object m s (with_cleanable spent)) ≡ taken_up (machine_of_cleanings c m) by s d
   machine_taken c place by action work m s d a w = rw (← a, ← w) (taken_work c m place s by d.action d.work)
 
   finished_work : (c : Cleanings R) (m : Machine) (action by : ℕ) (work : Work) (outcome : Outcome)
-      → machine_with (after_finish c (record { action = action; work = work; by = by }) outcome) m
-      ≡ finished (machine_with c m) (record { action = action; work = work; by = by }) outcome
+      → machine_of_cleanings (after_finish c (record { action = action; work = work; by = by }) outcome) m
+      ≡ finished (machine_of_cleanings c m) (record { action = action; work = work; by = by }) outcome
   finished_work c m action by (Note n) OutcomeOk = refl
   finished_work c m action by (Note n) (Failed fault) = refl
   finished_work c m action by (WorkOn rid) OutcomeOk = rw (resources_ended c.table.held rid) refl
   finished_work c m action by (WorkOn rid) (Failed fault) = rw (resources_ended c.table.held rid) refl
 
   pub machine_finished : (c : Cleanings R) (job : Job) (outcome : Outcome) (m : Machine)
-      → machine_with (after_finish c job outcome) m ≡ finished (machine_with c m) job outcome
+      → machine_of_cleanings (after_finish c job outcome) m ≡ finished (machine_of_cleanings c m) job outcome
   machine_finished c job outcome m = finished_work c m job.action job.by job.work outcome
 
   -- a cleaner's fields after a job was over and its outcome recorded

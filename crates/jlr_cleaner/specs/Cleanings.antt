@@ -14,7 +14,8 @@ use Rattle.jlr_machine.specs.Objects.{Table, at, empty_at, set_at}
 use Rattle.jlr_machine.specs.Lookups.{last_256, with_job, without_job}
 use Rattle.jlr_machine.specs.Calls.{noted}
 use Rattle.jlr_resource.specs.declared.place.Kept.TheVariants as kept
-use Rattle.jlr_resource.specs.Resources.{Resources, changed, kept_at, removed, resource_in, resources, state_at}
+use Rattle.jlr_resource.specs.Resources.{Resources, changed, kept_at, removed, resource_in, resources}
+use Rattle.jlr_resource.specs.Resources.{resource_state_at}
 
 -- The machine's fields that a cleaner keeps, with the table in place of the list of resources; and at each place the
 -- action that was registered there and not yet taken up, if there is one
@@ -36,8 +37,8 @@ pub record AreRegistered (waiting : Table ℕ) (next_action : ℕ) : Type 0 wher
 
 module _ {R : Type 0} where
   -- the machine with these fields, and all others as in m
-  abbrev pub machine_with : Cleanings R → Machine → Machine
-  machine_with c m =
+  abbrev pub machine_of_cleanings : Cleanings R → Machine → Machine
+  machine_of_cleanings c m =
       record m {
         jobs = c.jobs;
         resources = resources c.table;
@@ -77,7 +78,7 @@ module _ {R : Type 0} where
 
   abbrev pub IsInState : Resources R → ResourceState → Work → Type 0
   IsInState t s (Note n) = ⊤
-  IsInState t s (WorkOn rid) = state_at t rid ≡ Some s
+  IsInState t s (WorkOn rid) = resource_state_at t rid ≡ Some s
 
   -- where the work is a resource, its value is handed out, and only there
   abbrev pub HandsOut : Resources R → Work → Option R → Type 0
@@ -109,13 +110,13 @@ module _ {R : Type 0} where
   }
 
   -- the job and its resource are over
-  abbrev pub without_work : Cleanings R → Job → Cleanings R
-  without_work c job = record c { jobs = without_job c.jobs job.action; table = table_closed c.table job.work }
+  abbrev pub without_job_and_work : Cleanings R → Job → Cleanings R
+  without_job_and_work c job = record c { jobs = without_job c.jobs job.action; table = table_closed c.table job.work }
 
   -- and its outcome is recorded
   abbrev pub after_finish : Cleanings R → Job → Outcome → Cleanings R
-  after_finish c job OutcomeOk = record (without_work c job) { ok = c.ok + 1; notes = noted c.notes job.work }
-  after_finish c job (Failed fault) = record (without_work c job) {
+  after_finish c job OutcomeOk = record (without_job_and_work c job) { ok = c.ok + 1; notes = noted c.notes job.work }
+  after_finish c job (Failed fault) = record (without_job_and_work c job) {
     failed = c.failed + 1;
     faults = last_256 (c.faults ++ record { action = job.action; fault = fault } ∷ []);
   }

@@ -11,11 +11,12 @@ ghost use Rattle.jlr_machine.specs.Lookups.{with_object, with_resource, with_sta
 ghost use Rattle.jlr_machine.specs.Objects.{at, empty_at, with_cleanable};
 ghost use Rattle.jlr_machine.specs.Calls.{finished, spent, taken_up};
 ghost use Rattle.jlr_resource.specs.declared.place.Kept.TheVariants as kept;
-ghost use Rattle.jlr_resource.specs.Resources.{changed, kept_at, opening, removed, resource_in, resources, state_at};
+ghost use Rattle.jlr_resource.specs.Resources.{changed, kept_at, opening, removed, resource_in, resources};
+ghost use Rattle.jlr_resource.specs.Resources.{resource_state_at};
 ghost use Rattle.jlr_resource.specs.Resources.{values};
 ghost use Rattle.jlr_cleaner.specs.Jobs.{is_job_of, is_running, job_in, runs_job};
 ghost use Rattle.jlr_cleaner.specs.Cleanings.{HandsOut, HasWork, IsInState, after_finish, after_register};
-ghost use Rattle.jlr_cleaner.specs.Cleanings.{after_take_up, fresh, machine_with, table_closed, table_closing};
+ghost use Rattle.jlr_cleaner.specs.Cleanings.{after_take_up, fresh, machine_of_cleanings, table_closed, table_closing};
 
 use crate::job::Job;
 use crate::outcomes::Outcomes;
@@ -183,8 +184,8 @@ impl<R> Cleaner<R> {
         ensures waits_no_more { (other : ℕ) → at self.new.waiting other ≢ Some action }
         ensures running { job_in self.new.jobs action ≡ Some (record { action = action; work = work; by = by }) }
         ensures machine { (m : Machine) (s : ℕ) (c : Cleanable) → c.action ≡ action → c.work ≡ work
-            → machine_with self.new (with_object m s (with_cleanable spent))
-            ≡ taken_up (machine_with self.old m) by s c }
+            → machine_of_cleanings self.new (with_object m s (with_cleanable spent))
+            ≡ taken_up (machine_of_cleanings self.old m) by s c }
         ensures values { IsPermutation (values self.old.table)
             (option_to_list result.resource ++ values self.new.table) }
     {
@@ -210,7 +211,7 @@ impl<R> Cleaner<R> {
         ensures finished { (job : RunningJob) → job_in self.old.jobs action ≡ Some job → job.by ≡ by
             → self.new ≡ after_finish self.old job outcome }
         ensures machine { (m : Machine) (job : RunningJob) → job_in self.old.jobs action ≡ Some job → job.by ≡ by
-            → machine_with self.new m ≡ finished (machine_with self.old m) job outcome }
+            → machine_of_cleanings self.new m ≡ finished (machine_of_cleanings self.old m) job outcome }
         ensures values { values self.new.table ≡ values self.old.table }
     {
         let Some(job) = self.running.end(by, action) else {
@@ -292,7 +293,7 @@ impl<R> Cleaner<R> {
 
     /// Where the resource at a Rid is, if there is one.
     pub fn state(&self, rid: Rid) -> Option<State>
-        ensures { result ≡ state_at self.now.table rid }
+        ensures { result ≡ resource_state_at self.now.table rid }
     {
         self.table.state(rid)
     }
@@ -336,7 +337,7 @@ impl<R> Cleaner<R> {
         ensures next { IfOk result (λ rid. (rid ≡ self.old.table.next) × (rid < 2 ^ 32)) }
         ensures free { IfOk result (λ rid. resource_in (resources self.old.table) rid ≡ None) }
         ensures held { IfOk result (λ rid. self.new.table.held ≡ opening self.old.table rid action) }
-        ensures state { IfOk result (λ rid. state_at self.new.table rid ≡ Some state.Opening) }
+        ensures state { IfOk result (λ rid. resource_state_at self.new.table rid ≡ Some state.Opening) }
         ensures others { IfOk result (λ rid. (other : ℕ) → other ≢ rid
             → kept_at self.new.table other ≡ kept_at self.old.table other) }
         ensures resources { IfOk result (λ rid. resources self.new.table
@@ -357,12 +358,13 @@ impl<R> Cleaner<R> {
 
     /// The open ended well: the resource is Idle, and lies here.
     pub fn opened(&mut self, rid: Rid, resource: R)
-        requires { state_at self.old.table rid ≡ Some state.Opening }
+        requires { resource_state_at self.old.table rid ≡ Some state.Opening }
         ensures idle { self.new ≡ record self.old { table = changed self.old.table rid (kept.Idle resource) } }
         ensures lies_here { kept_at self.new.table rid ≡ Some (kept.Idle resource) }
-        ensures state { state_at self.new.table rid ≡ Some state.Idle }
+        ensures state { resource_state_at self.new.table rid ≡ Some state.Idle }
         ensures others { (other : ℕ) → other ≢ rid → kept_at self.new.table other ≡ kept_at self.old.table other }
-        ensures machine { (m : Machine) → machine_with self.new m ≡ with_state (machine_with self.old m) rid
+        ensures machine { (m : Machine) → machine_of_cleanings self.new m ≡ with_state (machine_of_cleanings self.old m)
+            rid
             state.Idle }
         ensures values { IsPermutation (resource ∷ values self.old.table) (values self.new.table) }
     {
@@ -373,14 +375,15 @@ impl<R> Cleaner<R> {
     /// which was to finish it, waits no more.
     pub fn open_failed(&mut self, place: Slot, rid: Rid)
         requires place { place < length self.old.waiting }
-        requires opening { state_at self.old.table rid ≡ Some state.Opening }
+        requires opening { resource_state_at self.old.table rid ≡ Some state.Opening }
         ensures gone { self.new ≡ record self.old {
           waiting = empty_at self.old.waiting place;
           table = removed self.old.table rid;
         } }
-        ensures state { state_at self.new.table rid ≡ None }
+        ensures state { resource_state_at self.new.table rid ≡ None }
         ensures others { (other : ℕ) → other ≢ rid → kept_at self.new.table other ≡ kept_at self.old.table other }
-        ensures machine { (m : Machine) → machine_with self.new m ≡ without_resource (machine_with self.old m) rid }
+        ensures machine { (m : Machine) → machine_of_cleanings self.new m
+            ≡ without_resource (machine_of_cleanings self.old m) rid }
         ensures values { values self.new.table ≡ values self.old.table }
         ensures room { length (resources self.new.table) < self.new.table.room }
     {
@@ -390,12 +393,13 @@ impl<R> Cleaner<R> {
 
     /// A call begins: the resource that was put in last for this Rid goes out.
     pub fn check_out(&mut self, rid: Rid) -> R
-        requires { state_at self.old.table rid ≡ Some state.Idle }
+        requires { resource_state_at self.old.table rid ≡ Some state.Idle }
         ensures put_in_last { kept_at self.old.table rid ≡ Some (kept.Idle result) }
         ensures out { self.new ≡ record self.old { table = changed self.old.table rid kept.Out } }
-        ensures state { state_at self.new.table rid ≡ Some state.Out }
+        ensures state { resource_state_at self.new.table rid ≡ Some state.Out }
         ensures others { (other : ℕ) → other ≢ rid → kept_at self.new.table other ≡ kept_at self.old.table other }
-        ensures machine { (m : Machine) → machine_with self.new m ≡ with_state (machine_with self.old m) rid state.Out }
+        ensures machine { (m : Machine) → machine_of_cleanings self.new m ≡ with_state (machine_of_cleanings self.old m)
+            rid state.Out }
         ensures values { IsPermutation (values self.old.table) (result ∷ values self.new.table) }
     {
         self.table.check_out(rid)
@@ -403,12 +407,13 @@ impl<R> Cleaner<R> {
 
     /// The call has ended, well or not: the resource is Idle, and lies here again.
     pub fn check_in(&mut self, rid: Rid, returned: R)
-        requires { state_at self.old.table rid ≡ Some state.Out }
+        requires { resource_state_at self.old.table rid ≡ Some state.Out }
         ensures idle { self.new ≡ record self.old { table = changed self.old.table rid (kept.Idle returned) } }
         ensures lies_here { kept_at self.new.table rid ≡ Some (kept.Idle returned) }
-        ensures state { state_at self.new.table rid ≡ Some state.Idle }
+        ensures state { resource_state_at self.new.table rid ≡ Some state.Idle }
         ensures others { (other : ℕ) → other ≢ rid → kept_at self.new.table other ≡ kept_at self.old.table other }
-        ensures machine { (m : Machine) → machine_with self.new m ≡ with_state (machine_with self.old m) rid
+        ensures machine { (m : Machine) → machine_of_cleanings self.new m ≡ with_state (machine_of_cleanings self.old m)
+            rid
             state.Idle }
         ensures values { IsPermutation (returned ∷ values self.old.table) (values self.new.table) }
     {

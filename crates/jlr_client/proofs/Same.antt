@@ -11,10 +11,10 @@ use Rattle.jlr_client.specs.declared.manual.form.Form.{Form}
 use Rattle.jlr_client.specs.declared.manual.form.Form.TheVariants as form
 use Rattle.jlr_client.specs.declared.manual.operand.Operand.{Operand}
 use Rattle.jlr_client.specs.declared.manual.operand.Operand.TheVariants as operand
-use Rattle.jlr_client.specs.Forms.{name_of, operands_of, IsOperand, AreOperands, IsOfForm, FormsAreCommands}
+use Rattle.jlr_client.specs.Forms.{word_of_form, operands_of, IsOperand, AreOperands, IsOfForm, FormsAreCommands}
 
 of_form : (line : List ℕ) (f : Form) (texts : List (List ℕ)) → AreOperands (operands_of f) texts → length line ≤ 512
-    → line ≡ join_with_byte 32 (name_of f ∷ texts) → IsOfForm line f
+    → line ≡ join_with_byte 32 (word_of_form f ∷ texts) → IsOfForm line f
 of_form line f texts each short joined = record { short = short; texts = texts; each = each; joined = joined }
 
 commands_are_forms : (line : List ℕ) (c : Command) → IsCommand line c → (f : Form) × IsOfForm line f

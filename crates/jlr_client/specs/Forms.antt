@@ -18,45 +18,45 @@ use Rattle.jlr_client.specs.declared.manual.operand.Operand.TheVariants.{Note, M
 use Rattle.jlr_client.specs.declared.manual.operand.Operand.TheVariants.{Path, Count, Bytes, Name}
 
 -- the word of a form
-abbrev pub name_of : Form → List ℕ
-name_of form.New = codes "new"
-name_of form.Array = codes "array"
-name_of form.Put = codes "put"
-name_of form.Get = codes "get"
-name_of form.SetInt = codes "setint"
-name_of form.Int = codes "int"
-name_of form.Dup = codes "dup"
-name_of form.Drop = codes "drop"
-name_of form.Same = codes "same"
-name_of form.Soft = codes "soft"
-name_of form.Weak = codes "weak"
-name_of form.Phantom = codes "phantom"
-name_of form.Deref = codes "deref"
-name_of form.Refers = codes "refers"
-name_of form.Clear = codes "clear"
-name_of form.Enqueue = codes "enqueue"
-name_of form.Enqueued = codes "enqueued"
-name_of form.Queue = codes "queue"
-name_of form.Poll = codes "poll"
-name_of form.Remove = codes "remove"
-name_of form.Cleaner = codes "cleaner"
-name_of form.Register = codes "register"
-name_of form.Clean = codes "clean"
-name_of form.Open = codes "open"
-name_of form.Connect = codes "connect"
-name_of form.Read = codes "read"
-name_of form.Write = codes "write"
-name_of form.Close = codes "close"
-name_of form.Bind = codes "bind"
-name_of form.Find = codes "find"
-name_of form.Unbind = codes "unbind"
-name_of form.Names = codes "names"
-name_of form.Gc = codes "gc"
-name_of form.GcSoft = codes "gc soft"
-name_of form.Stat = codes "stat"
-name_of form.Notes = codes "notes"
-name_of form.Faults = codes "faults"
-name_of form.Bye = codes "bye"
+abbrev pub word_of_form : Form → List ℕ
+word_of_form form.New = codes "new"
+word_of_form form.Array = codes "array"
+word_of_form form.Put = codes "put"
+word_of_form form.Get = codes "get"
+word_of_form form.SetInt = codes "setint"
+word_of_form form.Int = codes "int"
+word_of_form form.Dup = codes "dup"
+word_of_form form.Drop = codes "drop"
+word_of_form form.Same = codes "same"
+word_of_form form.Soft = codes "soft"
+word_of_form form.Weak = codes "weak"
+word_of_form form.Phantom = codes "phantom"
+word_of_form form.Deref = codes "deref"
+word_of_form form.Refers = codes "refers"
+word_of_form form.Clear = codes "clear"
+word_of_form form.Enqueue = codes "enqueue"
+word_of_form form.Enqueued = codes "enqueued"
+word_of_form form.Queue = codes "queue"
+word_of_form form.Poll = codes "poll"
+word_of_form form.Remove = codes "remove"
+word_of_form form.Cleaner = codes "cleaner"
+word_of_form form.Register = codes "register"
+word_of_form form.Clean = codes "clean"
+word_of_form form.Open = codes "open"
+word_of_form form.Connect = codes "connect"
+word_of_form form.Read = codes "read"
+word_of_form form.Write = codes "write"
+word_of_form form.Close = codes "close"
+word_of_form form.Bind = codes "bind"
+word_of_form form.Find = codes "find"
+word_of_form form.Unbind = codes "unbind"
+word_of_form form.Names = codes "names"
+word_of_form form.Gc = codes "gc"
+word_of_form form.GcSoft = codes "gc soft"
+word_of_form form.Stat = codes "stat"
+word_of_form form.Notes = codes "notes"
+word_of_form form.Faults = codes "faults"
+word_of_form form.Bye = codes "bye"
 
 -- what stands behind it
 abbrev pub operands_of : Form → List Operand
@@ -135,7 +135,7 @@ pub record IsOfForm (line : List ℕ) (form : Form) : Type 0 where
   pub short : length line ≤ 512
   pub texts : List (List ℕ)
   pub each : AreOperands (operands_of form) texts
-  pub joined : line ≡ join_with_byte 32 (name_of form ∷ texts)
+  pub joined : line ≡ join_with_byte 32 (word_of_form form ∷ texts)
 
 -- the lines of the forms are those of commands
 abbrev pub FormsAreCommands : Type 0

@@ -39,9 +39,9 @@ lines =
     ∷ []
 
 -- what stands beside a line
-abbrev pub named : List ℕ → List (List ℕ × Refusal) → Option Refusal
-named line [] = None
-named line (row ∷ rows) = cond (bytes_eq line row.0) (Some row.1) (named line rows)
+abbrev pub refusal_beside : List ℕ → List (List ℕ × Refusal) → Option Refusal
+refusal_beside line [] = None
+refusal_beside line (row ∷ rows) = cond (bytes_eq line row.0) (Some row.1) (refusal_beside line rows)
 
 unfoldable pub refusal_in : List ℕ → Option Refusal
-refusal_in line = named line lines
+refusal_in line = refusal_beside line lines

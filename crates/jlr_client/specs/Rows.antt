@@ -4,7 +4,7 @@ use Rattle.std.specs.List.{flat_map}
 use Rattle.jlr_client.specs.declared.manual.form.Form.{Form}
 use Rattle.jlr_client.specs.declared.manual.operand.Operand.{Operand}
 use Rattle.jlr_client.specs.declared.manual.operand.Operand.TheVariants as operand
-use Rattle.jlr_client.specs.Forms.{name_of, operands_of}
+use Rattle.jlr_client.specs.Forms.{word_of_form, operands_of}
 
 -- the letter or the word of an operand
 abbrev pub letter_of : Operand → List ℕ
@@ -28,9 +28,9 @@ letter_of operand.Bytes = codes "bytes"
 letter_of operand.Name = codes "name"
 
 -- each after a space
-abbrev pub letters : List Operand → List ℕ
-letters operands = flat_map (λ operand. 32 ∷ letter_of operand) operands
+abbrev pub operand_letters : List Operand → List ℕ
+operand_letters operands = flat_map (λ operand. 32 ∷ letter_of operand) operands
 
 -- the word of a form and its operands
 abbrev pub row_of : Form → List ℕ
-row_of form = name_of form ++ letters (operands_of form)
+row_of form = word_of_form form ++ operand_letters (operands_of form)

@@ -5,8 +5,8 @@ use Rattle.jlr_client.specs.declared.typed.Typed.{Typed}
 use Rattle.jlr_client.specs.declared.typed.Typed.TheVariants.{Line, Help, HelpOf, Save, Quit, Unknown}
 
 -- a line for the client itself begins with a dot, or its first word is `help`
-abbrev pub is_own : List ℕ → Bool
-is_own line = bytes_eq (take 1 line) (codes ".") || bytes_eq line (codes "help")
+abbrev pub is_for_client : List ℕ → Bool
+is_for_client line = bytes_eq (take 1 line) (codes ".") || bytes_eq line (codes "help")
     || bytes_eq (take 5 line) (codes "help ")
 
 -- A line of which the client carries out just this word, or this word and what follows it.
@@ -32,5 +32,5 @@ IsOwnWord line Unknown = IsNoWord line
 
 -- What goes to the server is what was typed, and no line for the client is; what the client does is what was typed.
 abbrev pub IsMeant : List ℕ → Typed → Type 0
-IsMeant line (Line sent) = (sent.now ≡ line) × (is_own line ≡ false)
-IsMeant line typed = (is_own line ≡ true) × IsOwnWord line typed
+IsMeant line (Line sent) = (sent.now ≡ line) × (is_for_client line ≡ false)
+IsMeant line typed = (is_for_client line ≡ true) × IsOwnWord line typed

@@ -1,6 +1,6 @@
 //! What a line that was typed asks for.
 ghost use Rattle.std.specs.Prelude.{◌≡◌, take};
-ghost use Rattle.jlr_client.specs.Typing.{is_own as own, IsOwnWord, IsMeant};
+ghost use Rattle.jlr_client.specs.Typing.{is_for_client as own, IsOwnWord, IsMeant};
 
 /// What a line that was typed asks for.
 #[derive(Clone, Copy, Debug)]

@@ -25,7 +25,7 @@ use Rattle.jlr_event.specs.declared.event.Event.{Event}
 use Rattle.jlr_event.specs.declared.event.Reply.{Reply}
 use Rattle.jlr_event.specs.Events.{ask_of, answer_in}
 use Rattle.jlr_core.specs.Cores.{Kept}
-use Rattle.jlr_core.specs.Cycles.{CountsItsCycles, GoesThrough, IsInCycle, TakesAtMost, blackened_in, made_in, ticks_in}
+use Rattle.jlr_core.specs.Cycles.{CountsItsCycles, GoesThrough, IsInCycle, TakesAtMost, blackened_in, made_in, ticks_taken}
 use Rattle.jlr_state.specs.Marks.{AnswersPiece, MarksStay, budget_of, has_grey, ticks_between}
 use Rattle.jlr_state.specs.Policy.{KeepsByPolicy, KeepsMarked}
 use Rattle.jlr_core.specs.Steps.{IsStep}
@@ -176,11 +176,12 @@ module _ {R : Type 0} (old : Kept R) (e : Event R) (r : Reply R) (c : Chosen) (n
   few : (blackened_in (budget_of e) old.marking new.marking ≡ 0) ⊎ (marked new.marking ≤ length old.machine.objects)
   few = few_by (budget_of e) s.step.marking
 
-  ticked_by : (b : Option ℕ) → answered b → blackened_in b old.marking new.marking ≤ ticks_in b old.machine.objects old.marking new.marking
+  ticked_by : (b : Option ℕ) → answered b → blackened_in b old.marking new.marking ≤ ticks_taken b old.machine.objects old.marking
+      new.marking
   ticked_by None m = omega arith
   ticked_by (Some budget) m = let k = marks_on budget m in omega (arith, k.1.blackening.black.1, k.1.blackening.black.2)
 
-  ticked : blackened_in (budget_of e) old.marking new.marking ≤ ticks_in (budget_of e) old.machine.objects old.marking new.marking
+  ticked : blackened_in (budget_of e) old.marking new.marking ≤ ticks_taken (budget_of e) old.machine.objects old.marking new.marking
   ticked = ticked_by (budget_of e) s.step.marking
 
   abbrev cells : ℕ
@@ -188,7 +189,7 @@ module _ {R : Type 0} (old : Kept R) (e : Event R) (r : Reply R) (c : Chosen) (n
 
   module _ (f : ℕ → ℕ) (most : (x : ℕ) → ticks_at old.machine.objects x ≤ f x) where
     on_by : (b : Option ℕ) → budget_of e ≡ b → answered b → IsPlaced f old.marking → IsPlaced f new.marking
-        × (stages f old.marking cells + ticks_in b old.machine.objects old.marking new.marking ≤ stages f new.marking cells)
+        × (stages f old.marking cells + ticks_taken b old.machine.objects old.marking new.marking ≤ stages f new.marking cells)
     on_by None is m placed =
         let stays = (s.step.blackens is (λ _. s.before) s.still).1 in
         (stay_placed f old.marking new.marking stays placed, omega (arith, stay_stages f old.marking new.marking cells stays placed))
@@ -201,7 +202,7 @@ module _ {R : Type 0} (old : Kept R) (e : Event R) (r : Reply R) (c : Chosen) (n
         )
 
     goes_on : IsPlaced f old.marking → IsPlaced f new.marking
-        × (stages f old.marking cells + ticks_in (budget_of e) old.machine.objects old.marking new.marking ≤ stages f new.marking cells)
+        × (stages f old.marking cells + ticks_taken (budget_of e) old.machine.objects old.marking new.marking ≤ stages f new.marking cells)
     goes_on placed = on_by (budget_of e) refl s.step.marking placed
 
 -- ---- All steps
@@ -252,7 +253,7 @@ all_ticked {R} f core (e ∷ events) (r ∷ replies) (c ∷ choices) heaps black
     let next = g.0 in
     let step = g.5 in
     let each : TakesAtMost f (core.machine.objects ∷ g.1) = subst (TakesAtMost f) g.7 most in
-    let t = ticks_in (budget_of e) core.machine.objects core.marking next.marking in
+    let t = ticks_taken (budget_of e) core.machine.objects core.marking next.marking in
     let one = goes_on core e r c next step f each.0 placed in
     let here : stages f core.marking n + t ≤ stages f next.marking n =
     subst (λ k. stages f core.marking k + t ≤ stages f next.marking k) cells one.1 in

@@ -20,9 +20,9 @@ abbrev pub blackened_in : Option ℕ → Marking → Marking → ℕ
 blackened_in None old new = 0
 blackened_in (Some budget) old new = blackened old new
 
-abbrev pub ticks_in : Option ℕ → Heap → Marking → Marking → ℕ
-ticks_in None heap old new = 0
-ticks_in (Some budget) heap old new = ticks_between heap old new
+abbrev pub ticks_taken : Option ℕ → Heap → Marking → Marking → ℕ
+ticks_taken None heap old new = 0
+ticks_taken (Some budget) heap old new = ticks_between heap old new
 
 -- how many objects any other event made
 abbrev pub made_in : Option ℕ → Chosen → ℕ
@@ -46,7 +46,7 @@ GoesThrough {R} core (e ∷ events) (r ∷ replies) (c ∷ choices) heaps black 
     (next : Kept R) × (h : List Heap) × (b : ℕ) × (t : ℕ) × (k : ℕ) × IsInCycle core e r c next
     × GoesThrough next events replies choices h b t k last × (heaps ≡ core.machine.objects ∷ h)
     × (black ≡ blackened_in (budget_of e) core.marking next.marking + b)
-    × (ticks ≡ ticks_in (budget_of e) core.machine.objects core.marking next.marking + t)
+    × (ticks ≡ ticks_taken (budget_of e) core.machine.objects core.marking next.marking + t)
     × (made ≡ made_in (budget_of e) c + k)
 GoesThrough _ _ _ _ _ _ _ _ _ = ⊥
 

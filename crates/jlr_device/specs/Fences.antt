@@ -2,7 +2,7 @@
 use Rattle.std.specs.Prelude.{◌≡◌, ◌⊎◌, ℕ, ◌+◌, Bool, List, length, Result, Err, MatchOption, MatchBool}
 use Rattle.jlr_types.specs.declared.Fault.{Fault}
 use Rattle.jlr_types.specs.declared.Fault.TheVariants.{Denied}
-use Rattle.jlr_device.specs.Paths.{placed}
+use Rattle.jlr_device.specs.Paths.{placed_below}
 use Rattle.jlr_device.specs.declared.fenced.Fence.{Fence}
 use Rattle.jlr_device.specs.declared.fenced.Fence.TheVariants.{Everything, Nothing, Below}
 use Rattle.jlr_device.specs.declared.fenced.Fenced.{Fenced}
@@ -15,7 +15,7 @@ abbrev pub Lets : (List ℕ → ℕ → Bool → Type 0) → (List ℕ → Type 
 Lets straight call denial Everything path = call path
 Lets straight call denial Nothing path = denial
 Lets straight call denial (Below folder) path =
-    MatchOption (placed folder.now path) denial
+    MatchOption (placed_below folder.now path) denial
     (λ whole. (told : Bool) × straight whole (length folder.now) told × MatchBool told (call whole) denial)
 
 -- The call at a path that is told to be no socket of the program's own, else a denial.

@@ -21,7 +21,7 @@ stays_below (b ∷ bs) = not (is_slash b) && not (has_parent (b ∷ bs))
 
 -- the path that starts at a folder, where its text keeps it below and it is not too long; none is below the empty
 -- folder
-abbrev pub placed : List ℕ → List ℕ → Option (List ℕ)
-placed [] path = None
-placed (b ∷ bs) path =
+abbrev pub placed_below : List ℕ → List ℕ → Option (List ℕ)
+placed_below [] path = None
+placed_below (b ∷ bs) path =
     cond (stays_below path && nat_le (length (b ∷ bs ++ 47 ∷ path)) 4095) (Some (b ∷ bs ++ 47 ∷ path)) None

@@ -36,11 +36,11 @@ pub record OpensScript (old : Scripts) (result : Result ScriptSteps Fault) (new 
 -- ---- ReadsScript and writes
 
 -- the bytes of a step for a read
-abbrev pub bytes_of : Option Step → List ℕ
-bytes_of None = []
-bytes_of (Some (Bytes bytes)) = bytes.items
-bytes_of (Some (Take n)) = []
-bytes_of (Some (Fail fault)) = []
+abbrev pub step_bytes : Option Step → List ℕ
+step_bytes None = []
+step_bytes (Some (Bytes bytes)) = bytes.items
+step_bytes (Some (Take n)) = []
+step_bytes (Some (Fail fault)) = []
 
 -- a read of so many bytes: what fits of the step's bytes, else none
 abbrev pub read_by : Option Step → ℕ → Result ℕ Fault
@@ -64,7 +64,7 @@ filled bytes buf = take (length buf) bytes ++ drop (length bytes) buf
 pub record ReadsScript (old : ScriptSteps) (buf : List ℕ) (result : Result ℕ Fault) (now : List ℕ) (new : ScriptSteps) :
     Type 0 where
   pub answer : result ≡ read_by (slice_get old.steps 0) (length buf)
-  pub bytes : now ≡ filled (bytes_of (slice_get old.steps 0)) buf
+  pub bytes : now ≡ filled (step_bytes (slice_get old.steps 0)) buf
   pub left : new.steps ≡ drop 1 old.steps
   pub finish : new.finished ≡ old.finished
 

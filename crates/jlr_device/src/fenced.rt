@@ -1,7 +1,7 @@
 //! A device in front of another: it lets through only calls with an allowed path, and answers `Denied` to all others.
 ghost use Rattle.std.specs.Prelude.{◌≡◌, ◌+◌, ◌^◌, ◌<◌, Bool, true, false, length, IfOk, MatchOption};
 ghost use Rattle.jlr_device.specs.Failures.{Counts};
-ghost use Rattle.jlr_device.specs.Paths.{placed};
+ghost use Rattle.jlr_device.specs.Paths.{placed_below};
 
 use crate::device::{Device, Mode};
 use crate::path::{self, PATH_LIMIT};
@@ -63,7 +63,7 @@ impl<'a, D: Device, P: Places> Fenced<'a, D, P> {
 
     /// The path joined to the folder, where the text allows it and the way is told to be straight.
     fn way(&self, folder: &str, path: &str) -> Option<ArrayString<PATH_LIMIT>>
-        ensures { MatchOption (placed folder.now path.now) (result ≡ None) (λ whole. (told : Bool)
+        ensures { MatchOption (placed_below folder.now path.now) (result ≡ None) (λ whole. (told : Bool)
             × P.may_be_straight self.now.places whole (length folder.now) told
             × MatchOption result (told ≡ false) (λ way. (told ≡ true) × (way.bytes ≡ whole))) }
     {

@@ -10,8 +10,8 @@ pub const PATH_LIMIT: usize = 4095;
 /// A path that starts at a folder, where its text keeps it below: it is not empty, does not start at the root, no part
 /// of it is `..`, and the whole has at most 4,095 bytes. None is below the empty folder.
 pub fn placed(folder: &str, path: &str) -> Option<ArrayString<PATH_LIMIT>>
-    ensures { MatchOption result (paths.placed folder.now path.now ≡ None)
-        (λ whole. paths.placed folder.now path.now ≡ Some whole.bytes) }
+    ensures { MatchOption result (paths.placed_below folder.now path.now ≡ None)
+        (λ whole. paths.placed_below folder.now path.now ≡ Some whole.bytes) }
 {
     if folder.is_empty() || !stays_below(path) {
         return None;

@@ -3,8 +3,8 @@ use Rattle.std.proofs.Common.{◌≡◌, ℕ, Bool, true, false, Option, Some, N
 use Rattle.jlr_machine.specs.declared.ask.Answer.{Answer}
 use Rattle.jlr_machine.specs.declared.ask.Answer.TheVariants.{Data, Faults, Names, Notes}
 use Rattle.jlr_event.specs.declared.event.Event.{Event}
-use Rattle.jlr_embed.specs.Kinds.{is_end, is_faulted, is_told, is_wrote}
-use Rattle.jlr_embed.specs.Calls.{Carries, HeapOfTokens, closed}
+use Rattle.jlr_embed.specs.Kinds.{tells_done, is_faulted, is_told, is_wrote}
+use Rattle.jlr_embed.specs.Calls.{Carries, HeapOfTokens, status_closed}
 use Rattle.jlr_embed.specs.OneEvent.{AskedOnce, Carried}
 use Rattle.jlr_embed.specs.Tells.{IsBare, TellsEnd, holds_memory}
 use Rattle.jlr_embed.specs.Ways.{EndsOnly}
@@ -23,13 +23,13 @@ ended None event answer new status c told = absurd c
 ended (Some old) event answer new status c told = (answer, c.0, c.1, c.2, told)
 
 pub silent : (old : Option HeapOfTokens) (event : Event ℕ) (new : Option HeapOfTokens) (status : ℕ) → old ≡ None → new ≡ None → status
-    ≡ closed
+    ≡ status_closed
     → EndsOnly old event status new
 silent old event new status none stays told = subst (λ (o : Option HeapOfTokens). EndsOnly o event status new) (sym none) (told, stays)
 
 -- ---- An answer of a bare kind holds no memory
 
-told_end : (a : Answer) → is_told is_end a ≡ true → holds_memory a ≡ false
+told_end : (a : Answer) → is_told tells_done a ≡ true → holds_memory a ≡ false
 told_end (Data bytes) told = elim told [ ]
 told_end (Names names) told = elim told [ ]
 told_end (Notes notes) told = elim told [ ]

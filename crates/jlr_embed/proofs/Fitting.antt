@@ -42,8 +42,9 @@ use Rattle.jlr_event.specs.Events.{ask_of, resource_of_event}
 use Rattle.jlr_core.specs.Cores.{Kept}
 use Rattle.jlr_core.specs.Events.{Enters, GoesOut, entry_of}
 use Rattle.jlr_core.specs.Steps.{IsEmpty, IsStep}
-use Rattle.jlr_embed.specs.Kinds.{GoesBack, is_end, is_faulted, is_prepared, kind_of_call, kind_of_finish, is_handle, is_job, is_integer}
-use Rattle.jlr_embed.specs.Kinds.{is_told, kind_of, kind_of_open, kind_asked, suits}
+use Rattle.jlr_embed.specs.Kinds.{GoesBack, tells_done, is_faulted, is_prepared, kind_of_call, kind_of_finish, is_handle, is_job_answer}
+use Rattle.jlr_embed.specs.Kinds.{is_integer}
+use Rattle.jlr_embed.specs.Kinds.{is_told, answer_kind, kind_of_open, kind_asked, suits}
 use Rattle.jlr_embed.specs.Standing.{StandsForMachine}
 
 -- ---- The answers of asks that are carried out
@@ -57,9 +58,10 @@ module _ (kind : Answer → Bool) where
   mapped f None a h e = no_some a e
   mapped f (Some x) a h e = plainly (f x) a e (h x)
 
-taken_up : (c : CleanableOf) → is_job (take_up_answer c) ≡ true
+taken_up : (c : CleanableOf) → is_job_answer (take_up_answer c) ≡ true
 taken_up c =
-    elim (is_spent c.state) as (λ b. is_job (cond b answer.AlreadyDone (answer.Job c.action c.work)) ≡ true) [ true ↦ refl | false ↦ refl ]
+    elim (is_spent c.state) as (λ b. is_job_answer (cond b answer.AlreadyDone (answer.Job c.action c.work)) ≡ true)
+    [ true ↦ refl | false ↦ refl ]
 
 handle : (m : Machine) (k : ℕ) (a : Answer) → new_handle m k ≡ Some a → is_handle a ≡ true
 handle m k a e = mapped is_handle _ (at m.mutators k) a (λ s. refl) e
@@ -74,7 +76,7 @@ number (Some (IntValue n)) a e = plainly is_integer (answer.Int n) a e refl
 number (Some (RefValue s)) a e = no_some a e
 
 ended : (outcome : Outcome) (a : Answer) → outcome_answer outcome (Some answer.Done) ≡ Some a → kind_of_finish outcome a ≡ true
-ended OutcomeOk a e = plainly is_end answer.Done a e refl
+ended OutcomeOk a e = plainly tells_done answer.Done a e refl
 ended (Failed fault) a e = plainly is_faulted (answer.Faulted fault) a e refl
 
 opened : (m : Machine) (k : ℕ) (outcome : Outcome) (a : Answer) → outcome_answer outcome (new_handle m k) ≡ Some a
@@ -87,56 +89,56 @@ called (GotData bytes) = refl
 called (GotWrote n) = refl
 called (GotFailed fault) = refl
 
-handed_over : (m : Machine) (slots : List ℕ) (a : Answer) → hand_over_answer m slots ≡ Some a → kind_of HandOver a ≡ true
-handed_over m [] a e = plainly (kind_of HandOver) _ a e refl
-handed_over m (s ∷ slots) a e = mapped (kind_of HandOver) _ (at m.objects s) a (λ o. refl) e
+handed_over : (m : Machine) (slots : List ℕ) (a : Answer) → hand_over_answer m slots ≡ Some a → answer_kind HandOver a ≡ true
+handed_over m [] a e = plainly (answer_kind HandOver) _ a e refl
+handed_over m (s ∷ slots) a e = mapped (answer_kind HandOver) _ (at m.objects s) a (λ o. refl) e
 
-lined_up : (m : Machine) (slots : List ℕ) (a : Answer) → line_answer m slots ≡ Some a → is_job a ≡ true
-lined_up m [] a e = plainly is_job _ a e refl
-lined_up m (s ∷ slots) a e = mapped is_job take_up_answer _ a taken_up e
+lined_up : (m : Machine) (slots : List ℕ) (a : Answer) → line_answer m slots ≡ Some a → is_job_answer a ≡ true
+lined_up m [] a e = plainly is_job_answer _ a e refl
+lined_up m (s ∷ slots) a e = mapped is_job_answer take_up_answer _ a taken_up e
 
-answered : (m : Machine) (ask : Ask) (o : Option Collected) (a : Answer) → Answers m ask o a → kind_of ask a ≡ true
-answered m (Join k) o a e = plainly is_end answer.Done a e refl
-answered m (Leave k) o a e = plainly is_end answer.Done a e refl
+answered : (m : Machine) (ask : Ask) (o : Option Collected) (a : Answer) → Answers m ask o a → answer_kind ask a ≡ true
+answered m (Join k) o a e = plainly tells_done answer.Done a e refl
+answered m (Leave k) o a e = plainly tells_done answer.Done a e refl
 answered m (New k layout) o a e = handle m k a e
-answered m (Put k h f v) o a e = plainly is_end answer.Done a e refl
+answered m (Put k h f v) o a e = plainly tells_done answer.Done a e refl
 answered m (Get k h f) o a e = handle_or_null m k (given m (Get k h f)) a e
-answered m (SetInt k h f n) o a e = plainly is_end answer.Done a e refl
+answered m (SetInt k h f n) o a e = plainly tells_done answer.Done a e refl
 answered m (Int k h f) o a e = number (field_named m k h f) a e
 answered m (Dup k h) o a e = handle_or_null m k (given m (Dup k h)) a e
-answered m (Drop k h) o a e = plainly is_end answer.Done a e refl
-answered m (Same k p q) o a e = plainly (kind_of (Same k p q)) _ a e refl
+answered m (Drop k h) o a e = plainly tells_done answer.Done a e refl
+answered m (Same k p q) o a e = plainly (answer_kind (Same k p q)) _ a e refl
 answered m (MakeRef k kind h q) o a e = handle m k a e
 answered m (Deref k s) o a e = handle_or_null m k (given m (Deref k s)) a e
-answered m (Refers k s h) o a e = mapped (kind_of (Refers k s h)) _ _ a (λ _. refl) e
-answered m (Clear k s) o a e = plainly is_end answer.Done a e refl
-answered m (Enqueue k s) o a e = mapped (kind_of (Enqueue k s)) _ _ a (λ _. refl) e
-answered m (Enqueued k s) o a e = mapped (kind_of (Enqueued k s)) _ _ a (λ _. refl) e
+answered m (Refers k s h) o a e = mapped (answer_kind (Refers k s h)) _ _ a (λ _. refl) e
+answered m (Clear k s) o a e = plainly tells_done answer.Done a e refl
+answered m (Enqueue k s) o a e = mapped (answer_kind (Enqueue k s)) _ _ a (λ _. refl) e
+answered m (Enqueued k s) o a e = mapped (answer_kind (Enqueued k s)) _ _ a (λ _. refl) e
 answered m (MakeQueue k) o a e = handle m k a e
 answered m (Poll k q) o a e = handle_or_null m k (given m (Poll k q)) a e
 answered m (Remove k q) o a e = handle_or_null m k (given m (Remove k q)) a e
 answered m (MakeCleaner k) o a e = handle m k a e
 answered m (Register k d h note) o a e = handle m k a e
-answered m (Clean k d) o a e = mapped is_job take_up_answer _ a taken_up e
+answered m (Clean k d) o a e = mapped is_job_answer take_up_answer _ a taken_up e
 answered m (Prepare k) o a e = subst (λ x. is_prepared x ≡ true) (sym e.3) refl
 answered m (Opened k outcome) o a e = opened m k outcome a e
-answered m (CheckOut k h) o a e = mapped (kind_of (CheckOut k h)) _ _ a (λ _. refl) e
+answered m (CheckOut k h) o a e = mapped (answer_kind (CheckOut k h)) _ _ a (λ _. refl) e
 answered m (CheckIn k outcome) o a e = plainly (kind_of_call outcome) (call_answer outcome) a e (called outcome)
-answered m (Close k h) o a e = mapped is_job take_up_answer _ a taken_up e
+answered m (Close k h) o a e = mapped is_job_answer take_up_answer _ a taken_up e
 answered m (Finish by action outcome) o a e = ended outcome a e
-answered m (Bind k name h) o a e = plainly is_end answer.Done a e refl
+answered m (Bind k name h) o a e = plainly tells_done answer.Done a e refl
 answered m (Find k name) o a e = handle m k a e
-answered m (Unbind k name) o a e = plainly is_end answer.Done a e refl
-answered m (Names k) o a e = plainly (kind_of (Names k)) _ a e refl
-answered m (Full k mode) o a e = plainly is_end answer.Done a e refl
-answered m (Stat k) o a e = plainly (kind_of (Stat k)) _ a e refl
-answered m (Notes k) o a e = plainly (kind_of (Notes k)) _ a e refl
-answered m (Faults k) o a e = plainly (kind_of (Faults k)) _ a e refl
+answered m (Unbind k name) o a e = plainly tells_done answer.Done a e refl
+answered m (Names k) o a e = plainly (answer_kind (Names k)) _ a e refl
+answered m (Full k mode) o a e = plainly tells_done answer.Done a e refl
+answered m (Stat k) o a e = plainly (answer_kind (Stat k)) _ a e refl
+answered m (Notes k) o a e = plainly (answer_kind (Notes k)) _ a e refl
+answered m (Faults k) o a e = plainly (answer_kind (Faults k)) _ a e refl
 answered m HandOver o a e = handed_over m m.pending a e
 answered m TakeUp o a e = lined_up m (from_lined m m.line) a e
-answered m Begin o a e = plainly (kind_of Begin) _ a e refl
-answered m Collect o a e = subst (λ x. kind_of Collect x ≡ true) (sym e) refl
-answered m Abandon o a e = plainly (kind_of Abandon) _ a e refl
+answered m Begin o a e = plainly (answer_kind Begin) _ a e refl
+answered m Collect o a e = subst (λ x. answer_kind Collect x ≡ true) (sym e) refl
+answered m Abandon o a e = plainly (answer_kind Abandon) _ a e refl
 answered m (Array k n) o a e = handle m k a e
 
 -- ---- Legal entries
@@ -160,12 +162,12 @@ told kind (answer.Prepared rid) e = e
 told kind (answer.Out rid) e = e
 told kind (answer.Handed what) e = e
 
-legal : (m : Machine) (e : Entry) → IsLegal m e → is_told (kind_of e.ask) e.answer ≡ true
+legal : (m : Machine) (e : Entry) → IsLegal m e → is_told (answer_kind e.ask) e.answer ≡ true
 legal m e (carried_out c) =
-    told (kind_of e.ask) e.answer (answered (with_collection m e.choice.collected) e.ask e.choice.collected e.answer c.answers)
-legal m e (refused x) = subst (λ a. is_told (kind_of e.ask) a ≡ true) (sym x.answers) refl
-legal m e (heap_full x) = subst (λ a. is_told (kind_of e.ask) a ≡ true) (sym x.answers) refl
-legal m e (out_of_memory x) = subst (λ a. is_told (kind_of e.ask) a ≡ true) (sym x.answers) refl
+    told (answer_kind e.ask) e.answer (answered (with_collection m e.choice.collected) e.ask e.choice.collected e.answer c.answers)
+legal m e (refused x) = subst (λ a. is_told (answer_kind e.ask) a ≡ true) (sym x.answers) refl
+legal m e (heap_full x) = subst (λ a. is_told (answer_kind e.ask) a ≡ true) (sym x.answers) refl
+legal m e (out_of_memory x) = subst (λ a. is_told (answer_kind e.ask) a ≡ true) (sym x.answers) refl
 
 entered : (m n : Machine) (ask : Option Ask) (a : Answer) (chosen : Chosen) → Enters m ask (Some a) chosen n
     → is_told (kind_asked ask) a ≡ true

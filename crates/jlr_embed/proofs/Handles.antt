@@ -28,7 +28,7 @@ use Rattle.std.proofs.alloc.Global.TheLaws as heap_laws
 use Rattle.std.specs.contracts.impls.GlobalAllocator.TheImpl.{ghosts}
 use Rattle.std.proofs.GlobalToken.{dealloc_token-Testable}
 use Rattle.jlr_core.specs.Cores.{Kept}
-use Rattle.jlr_embed.specs.Held.{held, heap_row as R}
+use Rattle.jlr_embed.specs.Held.{heap_held, heap_row as R}
 use Rattle.jlr_embed.specs.contracts.handle.handle.Heap as handle
 use Rattle.jlr_embed.proofs.Values.{both, both_tt}
 use mir.Syntax.{impl, tnil, dnil}
@@ -58,7 +58,7 @@ module _ {M : Type 1} {𝓤 : Ura M} {𝓛 : Logic 𝓤} {K : Type 0} {Γ : List
   -- what a handle owns, by value
   pub handle_out : K → (d : H.Denot) (vs : List Val)
       → ((h : Val) → vs ≡ both (ptr_val d.at) h ∷ [] → Good (layout Z) h
-      → Seq K 𝓛 (‵ (held d.alloc d.at d.value) ∷ ‵ (Z.own_val d.alloc (h ∷ [])) ∷ Γ) G)
+      → Seq K 𝓛 (‵ (heap_held d.alloc d.at d.value) ∷ ‵ (Z.own_val d.alloc (h ∷ [])) ∷ Γ) G)
       → Seq K 𝓛 (‵ (H.own_val d vs) ∷ Γ) G
   handle_out t d vs k =
       fsplit t $ fpick t (λ vss. fsplit t $ feq_l t (λ ev. fsplit t $ feq_l t
@@ -68,7 +68,7 @@ module _ {M : Type 1} {𝓤 : Ura M} {𝓛 : Logic 𝓤} {K : Type 0} {Γ : List
 
   pub handle_in : K → (p : Ptr) (h : Val) (a : Global) (x : Option (Kept ℕ))
       → Step K 𝓛 (‵ (H.own_val (record { at = p; alloc = a; value = x }) (both (ptr_val p) h ∷ [])) ∷ Γ) G
-      (‵ (held a p x) ∷ ‵ (Z.own_val a (h ∷ [])) ∷ Γ) G
+      (‵ (heap_held a p x) ∷ ‵ (Z.own_val a (h ∷ [])) ∷ Γ) G
   handle_in t p h a x = step (λ s. let v : Val = both (ptr_val p) h in
       nothing t $ move t (2 ∷ 0 ∷ []) $ fjoin t $ feq_i t (List Val) (ptr_val p ∷ []) (ptr_val p ∷ []) refl $ fjoin t $ feq_i t (List Val)
       (v ∷ []) (v ∷ []) refl $ fjoin t $
@@ -80,7 +80,7 @@ module _ {M : Type 1} {𝓤 : Ura M} {𝓛 : Logic 𝓤} {K : Type 0} {Γ : List
       → (v ≡ None → p ≡ null_ptr → Seq K 𝓛 Γ G)
       → ((b o : ℕ) (x : Kept ℕ) → v ≡ Some x → p ≡ block_ptr b o → Testable (block_ptr b o)
       → Seq K 𝓛 (‵ (box_owns (ghosts.dealloc_token a) R (block_ptr b o) x) ∷ Γ) G)
-      → Seq K 𝓛 (‵ (held a p v) ∷ Γ) G
+      → Seq K 𝓛 (‵ (heap_held a p v) ∷ Γ) G
   either_held t a p None none one = feq_l t (λ e. none refl e)
   either_held t a p (Some x) none one =
       in_a_block t p (λ q. box_owns (ghosts.dealloc_token a) R q x)

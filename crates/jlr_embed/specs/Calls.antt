@@ -20,8 +20,8 @@ HeapOfTokens = Kept ℕ
 -- ---- What a call returns beside 0 and the number of a refusal, 1 to 19
 
 -- the handle is closed
-abbrev pub closed : ℕ
-closed = 32
+abbrev pub status_closed : ℕ
+status_closed = 32
 
 -- an argument is out of its range
 abbrev pub range : ℕ

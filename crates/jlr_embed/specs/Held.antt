@@ -14,6 +14,6 @@ use Rattle.jlr_embed.specs.contracts.unrecorded.Unrecorded.{the_row}
 abbrev pub heap_row : RattleType
 heap_row = the_row u64
 
-abbrev pub held : Global → Ptr → Option (Kept ℕ) → Fml
-held a p None = feq Ptr p null_ptr
-held a p (Some x) = box_owns (ghosts.dealloc_token a) heap_row p x
+abbrev pub heap_held : Global → Ptr → Option (Kept ℕ) → Fml
+heap_held a p None = feq Ptr p null_ptr
+heap_held a p (Some x) = box_owns (ghosts.dealloc_token a) heap_row p x

@@ -22,14 +22,14 @@ use Rattle.jlr_machine.specs.declared.ask.Answer.TheVariants.{Handed, Refused}
 
 -- ---- Kinds of answers
 
-abbrev pub is_refused : Answer → Bool
-is_refused (Refused by) = true
-is_refused _ = false
+abbrev pub is_refused_answer : Answer → Bool
+is_refused_answer (Refused by) = true
+is_refused_answer _ = false
 
 -- nothing but that the ask was carried out
-abbrev pub is_end : Answer → Bool
-is_end Done = true
-is_end _ = false
+abbrev pub tells_done : Answer → Bool
+tells_done Done = true
+tells_done _ = false
 
 abbrev pub is_faulted : Answer → Bool
 is_faulted (Faulted fault) = true
@@ -60,15 +60,15 @@ is_integer (Int n) = true
 is_integer _ = false
 
 -- a job, or that there is none
-abbrev pub is_job : Answer → Bool
-is_job (Job action work) = true
-is_job AlreadyDone = true
-is_job (Handed Nothing) = true
-is_job _ = false
+abbrev pub is_job_answer : Answer → Bool
+is_job_answer (Job action work) = true
+is_job_answer AlreadyDone = true
+is_job_answer (Handed Nothing) = true
+is_job_answer _ = false
 
-abbrev pub is_out : Answer → Bool
-is_out (Out rid) = true
-is_out _ = false
+abbrev pub is_lent : Answer → Bool
+is_lent (Out rid) = true
+is_lent _ = false
 
 abbrev pub is_handed : Answer → Bool
 is_handed (Handed what) = true
@@ -102,60 +102,60 @@ kind_of_call (call.Wrote n) = is_wrote
 kind_of_call (call.Failed fault) = is_faulted
 
 abbrev pub kind_of_finish : Outcome → Answer → Bool
-kind_of_finish Well = is_end
+kind_of_finish Well = tells_done
 kind_of_finish (Failed fault) = is_faulted
 
-abbrev pub kind_of : Ask → Answer → Bool
-kind_of (Join k) = is_end
-kind_of (Leave k) = is_end
-kind_of (New k layout) = is_handle
-kind_of (Put k h f v) = is_end
-kind_of (Get k h f) = is_handle
-kind_of (SetInt k h f n) = is_end
-kind_of (AskInt k h f) = is_integer
-kind_of (Dup k h) = is_handle
-kind_of (Drop k h) = is_end
-kind_of (Same k a b) = is_truth
-kind_of (MakeRef k kind h q) = is_handle
-kind_of (Deref k r) = is_handle
-kind_of (Refers k r h) = is_truth
-kind_of (Clear k r) = is_end
-kind_of (Enqueue k r) = is_truth
-kind_of (Enqueued k r) = is_truth
-kind_of (MakeQueue k) = is_handle
-kind_of (Poll k q) = is_handle
-kind_of (Remove k q) = is_handle
-kind_of (MakeCleaner k) = is_handle
-kind_of (Register k c h note) = is_handle
-kind_of (Clean k c) = is_job
-kind_of (Prepare k) = is_prepared
-kind_of (Opened k outcome) = kind_of_open outcome
-kind_of (CheckOut k h) = is_out
-kind_of (CheckIn k outcome) = kind_of_call outcome
-kind_of (Close k h) = is_job
-kind_of (Finish by action outcome) = kind_of_finish outcome
-kind_of (Bind k name h) = is_end
-kind_of (Find k name) = is_handle
-kind_of (Unbind k name) = is_end
-kind_of (AskNames k) = is_names
-kind_of (Full k mode) = is_end
-kind_of (AskStat k) = is_stat
-kind_of (AskNotes k) = is_notes
-kind_of (AskFaults k) = is_faults
-kind_of HandOver = is_handed
-kind_of TakeUp = is_job
-kind_of Begin = is_truth
-kind_of Collect = is_truth
-kind_of Abandon = is_truth
-kind_of (Array k n) = is_handle
+abbrev pub answer_kind : Ask → Answer → Bool
+answer_kind (Join k) = tells_done
+answer_kind (Leave k) = tells_done
+answer_kind (New k layout) = is_handle
+answer_kind (Put k h f v) = tells_done
+answer_kind (Get k h f) = is_handle
+answer_kind (SetInt k h f n) = tells_done
+answer_kind (AskInt k h f) = is_integer
+answer_kind (Dup k h) = is_handle
+answer_kind (Drop k h) = tells_done
+answer_kind (Same k a b) = is_truth
+answer_kind (MakeRef k kind h q) = is_handle
+answer_kind (Deref k r) = is_handle
+answer_kind (Refers k r h) = is_truth
+answer_kind (Clear k r) = tells_done
+answer_kind (Enqueue k r) = is_truth
+answer_kind (Enqueued k r) = is_truth
+answer_kind (MakeQueue k) = is_handle
+answer_kind (Poll k q) = is_handle
+answer_kind (Remove k q) = is_handle
+answer_kind (MakeCleaner k) = is_handle
+answer_kind (Register k c h note) = is_handle
+answer_kind (Clean k c) = is_job_answer
+answer_kind (Prepare k) = is_prepared
+answer_kind (Opened k outcome) = kind_of_open outcome
+answer_kind (CheckOut k h) = is_lent
+answer_kind (CheckIn k outcome) = kind_of_call outcome
+answer_kind (Close k h) = is_job_answer
+answer_kind (Finish by action outcome) = kind_of_finish outcome
+answer_kind (Bind k name h) = tells_done
+answer_kind (Find k name) = is_handle
+answer_kind (Unbind k name) = tells_done
+answer_kind (AskNames k) = is_names
+answer_kind (Full k mode) = tells_done
+answer_kind (AskStat k) = is_stat
+answer_kind (AskNotes k) = is_notes
+answer_kind (AskFaults k) = is_faults
+answer_kind HandOver = is_handed
+answer_kind TakeUp = is_job_answer
+answer_kind Begin = is_truth
+answer_kind Collect = is_truth
+answer_kind Abandon = is_truth
+answer_kind (Array k n) = is_handle
 
 abbrev pub kind_asked : Option Ask → Answer → Bool
-kind_asked (Some ask) = kind_of ask
-kind_asked None = is_refused
+kind_asked (Some ask) = answer_kind ask
+kind_asked None = is_refused_answer
 
 -- a refusal, or an answer of that kind
 abbrev pub is_told : (Answer → Bool) → Answer → Bool
-is_told kind answer = is_refused answer || kind answer
+is_told kind answer = is_refused_answer answer || kind answer
 
 -- ---- What goes out
 

@@ -16,7 +16,7 @@ use Rattle.jlr_machine.specs.declared.ask.Handed.TheVariants.{Queued, Lined, Ski
 use Rattle.jlr_machine.specs.declared.ask.Answer.{Answer}
 use Rattle.jlr_machine.specs.declared.ask.Answer.TheVariants.{AlreadyDone, Data, Handle, Handed, Int, Job, Names, Notes}
 use Rattle.jlr_machine.specs.declared.ask.Answer.TheVariants.{Faults, Out, Refused, Stat, Truth}
-use Rattle.jlr_embed.specs.Kinds.{is_end, is_faulted, is_wrote}
+use Rattle.jlr_embed.specs.Kinds.{tells_done, is_faulted, is_wrote}
 use Rattle.jlr_embed.specs.declared.handle.out.Counts.{Counts}
 use Rattle.jlr_embed.specs.declared.handle.out.Failed.{Failed}
 use Rattle.jlr_embed.specs.declared.handle.out.Taken.{Taken}
@@ -32,7 +32,7 @@ holds_memory _ = false
 
 -- of these kinds is the answer of a call that tells nothing but how it ended; none of them holds memory
 abbrev pub IsBare : (Answer → Bool) → Type 0
-IsBare kind = (kind ≡ is_end) ⊎ (kind ≡ is_faulted) ⊎ (kind ≡ is_wrote)
+IsBare kind = (kind ≡ tells_done) ⊎ (kind ≡ is_faulted) ⊎ (kind ≡ is_wrote)
 
 -- nothing but how it ended
 abbrev pub TellsEnd : ℕ → Answer → Type 0
@@ -127,14 +127,14 @@ TellsNote status old new index (Notes notes) = TellsNoteAt status old new (slice
 TellsNote status old new index (Refused by) = (status ≡ number_of by) × (new ≡ old)
 TellsNote status old new index _ = ⊥
 
-abbrev pub fault_number : Fault → ℕ
-fault_number NotFound = 1
-fault_number Denied = 2
-fault_number Other = 3
+abbrev pub fault_status : Fault → ℕ
+fault_status NotFound = 1
+fault_status Denied = 2
+fault_status Other = 3
 
 abbrev pub TellsFaultAt : ℕ → Failed → Failed → Option Failure → Type 0
 TellsFaultAt status old new None = (status ≡ idle) × (new ≡ old)
-TellsFaultAt status old new (Some f) = (status ≡ 0) × (new ≡ record { action = f.action; fault = fault_number f.fault })
+TellsFaultAt status old new (Some f) = (status ≡ 0) × (new ≡ record { action = f.action; fault = fault_status f.fault })
 
 abbrev pub TellsFault : ℕ → Failed → Failed → ℕ → Answer → Type 0
 TellsFault status old new index (Faults faults) = TellsFaultAt status old new (slice_get faults index)

@@ -16,8 +16,8 @@ use Rattle.jlr_core.specs.Runs.{AreAnswered}
 use Rattle.jlr_book.specs.Histories.{History, IsHistory, last}
 use Rattle.jlr_hall.specs.declared.dues.Dues.{Dues}
 use Rattle.jlr_hall.specs.declared.step.Step.{Step}
-use Rattle.jlr_hall.specs.OneHistory.{Trace, add, entry_of, events_of, is_refused, replies_of, seat_of, step, trace, trace_of}
-use Rattle.jlr_hall.specs.Due.{counted}
+use Rattle.jlr_hall.specs.OneHistory.{Trace, add, step_entry, events_of, is_refused_reply, replies_of, seat_of, step, trace, trace_of}
+use Rattle.jlr_hall.specs.Due.{count_after}
 use Rattle.jlr_hall.specs.Locking.{IsLocked, count_at}
 
 -- the number of the last entry
@@ -38,37 +38,37 @@ none_left false n x = omega arith
 module _ {R : Type 0} where
   -- a step that opens a resource is an entry
   counted_once : (n seat : ℕ) (e : Event R) (reply : Reply R) (cuts : Bool) (c : Chosen)
-      → counted n e reply ≤ n + length (entry_of (step seat e reply cuts) c)
+      → count_after n e reply ≤ n + length (step_entry (step seat e reply cuts) c)
   counted_once n seat (Opened k outcome) (Answered (Handle h) resource) cuts c = omega arith
   counted_once n seat (Asks (Clean k h)) reply cuts c =
-      one_less (is_some (resource_of_reply reply)) n (length (entry_of (step seat (Asks (Clean k h)) reply cuts) c))
+      one_less (is_some (resource_of_reply reply)) n (length (step_entry (step seat (Asks (Clean k h)) reply cuts) c))
   counted_once n seat (Asks (Close k h)) reply cuts c =
-      one_less (is_some (resource_of_reply reply)) n (length (entry_of (step seat (Asks (Close k h)) reply cuts) c))
+      one_less (is_some (resource_of_reply reply)) n (length (step_entry (step seat (Asks (Close k h)) reply cuts) c))
   counted_once n seat (Asks (Leave k)) reply cuts c =
-      none_left (is_refused (answer_in reply)) n (length (entry_of (step seat (Asks (Leave k)) reply cuts) c))
-  counted_once n seat e reply cuts c = no_less n (length (entry_of (step seat e reply cuts) c))
+      none_left (is_refused_reply (answer_in reply)) n (length (step_entry (step seat (Asks (Leave k)) reply cuts) c))
+  counted_once n seat e reply cuts c = no_less n (length (step_entry (step seat e reply cuts) c))
 
-  added_size : (t : Trace) (e : Step R) (c : Chosen) → size (add t e c) ≡ size t + length (entry_of e c)
+  added_size : (t : Trace) (e : Step R) (c : Chosen) → size (add t e c) ≡ size t + length (step_entry e c)
   added_size t e c =
-      elim e.cuts as (λ b. size (cond b (trace (t.base + length t.entries) (entry_of e c)) (trace t.base (t.entries ++ entry_of e c)))
-      ≡ size t + length (entry_of e c)) [
+      elim e.cuts as (λ b. size (cond b (trace (t.base + length t.entries) (step_entry e c)) (trace t.base (t.entries ++ step_entry e c)))
+      ≡ size t + length (step_entry e c)) [
         | true ↦ refl
-        | false ↦ omega (arith, length-append t.entries (entry_of e c))
+        | false ↦ omega (arith, length-append t.entries (step_entry e c))
       ]
 
   counted_fits : (seat n : ℕ) (t : Trace) (log : List (Step R)) (choices : List Chosen)
       → AreAnswered (events_of log) (replies_of log) choices
-      → fold (λ (m : ℕ) (e : Step R). counted m e.event e.reply) n (own seat_of seat log) + size t ≤ n + size (trace_of t log choices)
+      → fold (λ (m : ℕ) (e : Step R). count_after m e.event e.reply) n (own seat_of seat log) + size t ≤ n + size (trace_of t log choices)
   counted_fits seat n t [] [] a = omega arith
   counted_fits seat n t (e ∷ log) (c ∷ choices) a =
       let more = added_size t e c in
-      elim (e.seat == seat) as (λ b. fold (λ (m : ℕ) (x : Step R). counted m x.event x.reply) n
+      elim (e.seat == seat) as (λ b. fold (λ (m : ℕ) (x : Step R). count_after m x.event x.reply) n
       (cond b (e ∷ own seat_of seat log) (own seat_of seat log)) + size t ≤ n + size (trace_of (add t e c) log choices)) [
         | true ↦ omega (
           arith,
           more,
           counted_once n e.seat e.event e.reply e.cuts c,
-          counted_fits seat (counted n e.event e.reply) (add t e c) log choices a.1,
+          counted_fits seat (count_after n e.event e.reply) (add t e c) log choices a.1,
         )
         | false ↦ omega (arith, more, counted_fits seat n (add t e c) log choices a.1)
       ]

@@ -18,10 +18,10 @@ use Rattle.jlr_event.specs.Events.{answer_in, resource_of_event, resource_of_rep
 use Rattle.jlr_log.specs.Views.{own}
 use Rattle.jlr_hall.specs.declared.dues.Dues.{Dues}
 use Rattle.jlr_hall.specs.declared.step.Step.{Step}
-use Rattle.jlr_hall.specs.OneHistory.{is_refused, seat_of, step}
+use Rattle.jlr_hall.specs.OneHistory.{is_refused_reply, seat_of, step}
 use Rattle.jlr_hall.specs.Asking.{gave_up}
-use Rattle.jlr_hall.specs.Due.{IsOwed, counted, is_collected, is_full, is_handle, open_at, owes, settles}
-use Rattle.jlr_hall.specs.Locking.{Shows, after, count_at, effect_of, with_count, without}
+use Rattle.jlr_hall.specs.Due.{IsOwed, count_after, is_collected, is_resources_full, answers_handle, open_at, owes, settles}
+use Rattle.jlr_hall.specs.Locking.{Shows, dues_after, count_at, effect_of, with_count, without}
 
 -- ---- What a step changes of what is kept
 
@@ -67,22 +67,24 @@ module _ (seat : ℕ) (d : Dues) (sits : seat < length d.opened) where
   settles_where false = stays
 
   moves : {R : Type 0} (e : Event R) (reply : Reply R)
-      → Moves seat d (counted (count_at seat d) e reply) (owes (count_at seat d) e reply) (settles e reply)
-      (after seat (effect_of e) reply d)
-  moves (Asks (Leave k)) reply = leaves_where (is_refused (answer_in reply))
-  moves (Opened k outcome) reply = counts_where (is_handle (answer_in reply)) (count_at seat d + 1)
+      → Moves seat d (count_after (count_at seat d) e reply) (owes (count_at seat d) e reply) (settles e reply)
+      (dues_after seat (effect_of e) reply d)
+  moves (Asks (Leave k)) reply = leaves_where (is_refused_reply (answer_in reply))
+  moves (Opened k outcome) reply = counts_where (answers_handle (answer_in reply)) (count_at seat d + 1)
   moves (Asks (Clean k c)) reply = counts_where (is_some (resource_of_reply reply)) (count_at seat d - 1)
   moves (Asks (Close k h)) reply = counts_where (is_some (resource_of_reply reply)) (count_at seat d - 1)
-  moves (Asks (Prepare k)) reply = owes_where (is_full (answer_in reply))
+  moves (Asks (Prepare k)) reply = owes_where (is_resources_full (answer_in reply))
   moves (Asks Begin) reply = settles_where (is_collected (answer_in reply))
   moves (Asks (Full k mode)) reply = settles_where (is_collected (answer_in reply))
   moves event reply = stays
 
 -- what the book declines changes nothing
 unchanged : {R : Type 0} (seat : ℕ) (d : Dues) (by : Refusal) → (by ≡ NoMemory) ⊎ (by ≡ Exhausted) → (e : Event R)
-    → after seat (effect_of e) (Answered (Refused by) (resource_of_event e)) d ≡ d
-unchanged seat d by (inl is) (Asks (Prepare k)) = ap (λ (x : Refusal). cond (is_full (Some (Refused x))) (record d { owed = true }) d) is
-unchanged seat d by (inr is) (Asks (Prepare k)) = ap (λ (x : Refusal). cond (is_full (Some (Refused x))) (record d { owed = true }) d) is
+    → dues_after seat (effect_of e) (Answered (Refused by) (resource_of_event e)) d ≡ d
+unchanged seat d by (inl is) (Asks (Prepare k)) =
+    ap (λ (x : Refusal). cond (is_resources_full (Some (Refused x))) (record d { owed = true }) d) is
+unchanged seat d by (inr is) (Asks (Prepare k)) =
+    ap (λ (x : Refusal). cond (is_resources_full (Some (Refused x))) (record d { owed = true }) d) is
 unchanged seat d by why e = refl
 
 -- ---- What a step changes of what the history says
@@ -104,15 +106,15 @@ last_parts (b ∷ earlier) e later (y ∷ log) x is = elim (last_parts earlier e
 
 module _ {R : Type 0} where
   counted_more : (k : ℕ) (log : List (Step R)) (s : Step R)
-      → open_at k (log ++ s ∷ []) ≡ cond (s.seat == k) (counted (open_at k log) s.event s.reply) (open_at k log)
+      → open_at k (log ++ s ∷ []) ≡ cond (s.seat == k) (count_after (open_at k log) s.event s.reply) (open_at k log)
   counted_more k log s =
-      let f = λ (n : ℕ) (e : Step R). counted n e.event e.reply in
+      let f = λ (n : ℕ) (e : Step R). count_after n e.event e.reply in
       ap (λ (l : List (Step R)). fold f 0 l) (filter-append (λ (e : Step R). e.seat == k) log (s ∷ []))
       ∙ fold-append f 0 (own seat_of k log) (cond (s.seat == k) (s ∷ []) [])
       ∙ one (s.seat == k)
     where
-      one : (b : Bool) → fold (λ (n : ℕ) (e : Step R). counted n e.event e.reply) (open_at k log) (cond b (s ∷ []) []) ≡ cond b
-          (counted (open_at k log) s.event s.reply) (open_at k log)
+      one : (b : Bool) → fold (λ (n : ℕ) (e : Step R). count_after n e.event e.reply) (open_at k log) (cond b (s ∷ []) []) ≡ cond b
+          (count_after (open_at k log) s.event s.reply) (open_at k log)
       one true = refl
       one false = refl
 
@@ -161,7 +163,8 @@ with_right false s w is was = ap (λ x. not x && w) is ∙ was
 
 module _ {R : Type 0} where
   shown_more : (d now : Dues) (log : List (Step R)) (s : Step R) → s.seat < 256 → Shows d log
-      → Moves s.seat d (counted (count_at s.seat d) s.event s.reply) (owes (count_at s.seat d) s.event s.reply) (settles s.event s.reply)
+      → Moves s.seat d (count_after (count_at s.seat d) s.event s.reply) (owes (count_at s.seat d) s.event s.reply)
+      (settles s.event s.reply)
       now → Shows now (log ++ s ∷ [])
   shown_more d now log s sits shows m =
       let here = shows.counts s.seat sits in
@@ -183,18 +186,18 @@ module _ {R : Type 0} where
       }
     where
       at : (k : ℕ) → k < 256 → (b : Bool) → (s.seat == k) ≡ b
-          → count_at k now ≡ cond b (counted (open_at k log) s.event s.reply) (open_at k log)
+          → count_at k now ≡ cond b (count_after (open_at k log) s.event s.reply) (open_at k log)
       at k lt true is =
           let same = eqb-true s.seat k is in
-          subst (λ (j : ℕ). count_at j now ≡ counted (open_at j log) s.event s.reply) same
-          (m.here ∙ ap (λ (n : ℕ). counted n s.event s.reply) (shows.counts s.seat sits))
+          subst (λ (j : ℕ). count_at j now ≡ count_after (open_at j log) s.event s.reply) same
+          (m.here ∙ ap (λ (n : ℕ). count_after n s.event s.reply) (shows.counts s.seat sits))
       at k lt false is = m.others k (λ same. eqb-false s.seat k is (sym same)) ∙ shows.counts k lt
 
   pub shown_step : (d : Dues) (log : List (Step R)) (seat : ℕ) (e : Event R) (reply : Reply R) (cuts : Bool) → seat < 256 → Shows d log
-      → Shows (after seat (effect_of e) reply d) (log ++ step seat e reply cuts ∷ [])
+      → Shows (dues_after seat (effect_of e) reply d) (log ++ step seat e reply cuts ∷ [])
   shown_step d log seat e reply cuts sits shows =
       let there : seat < length d.opened = subst (λ (n : ℕ). seat < n) (sym shows.long) sits in
-      shown_more d (after seat (effect_of e) reply d) log (step seat e reply cuts) sits shows (moves seat d there e reply)
+      shown_more d (dues_after seat (effect_of e) reply d) log (step seat e reply cuts) sits shows (moves seat d there e reply)
 
   -- after a cut that gave a cycle up
   shown_cut : (d : Dues) (log : List (Step R)) (seat : ℕ) (b : Bool) → seat < 256 → Shows d log → Shows d (log ++ gave_up seat b)
@@ -202,17 +205,17 @@ module _ {R : Type 0} where
   shown_cut d log seat false sits shows = subst (Shows d) (sym (append-nil log)) shows
 
   pub shown_now : (d : Dues) (log now : List (Step R)) (seat : ℕ) (e : Event R) (reply : Reply R) (cut b : Bool) → seat < 256
-      → now ≡ gave_up seat b ++ step seat e reply cut ∷ [] → Shows d log → Shows (after seat (effect_of e) reply d) (log ++ now)
+      → now ≡ gave_up seat b ++ step seat e reply cut ∷ [] → Shows d log → Shows (dues_after seat (effect_of e) reply d) (log ++ now)
   shown_now d log now seat e reply cut b sits is shows =
       let there = shown_step d (log ++ gave_up seat b) seat e reply cut sits (shown_cut d log seat b sits shows) in
-      subst (λ (l : List (Step R)). Shows (after seat (effect_of e) reply d) l)
+      subst (λ (l : List (Step R)). Shows (dues_after seat (effect_of e) reply d) l)
       (append_assoc log (gave_up seat b) (step seat e reply cut ∷ []) ∙ ap (λ l. log ++ l) (sym is)) there
 
   pub shown_declined : (d : Dues) (log now : List (Step R)) (seat : ℕ) (e : Event R) (reply : Reply R) (by : Refusal) → now ≡ []
       → (by ≡ NoMemory) ⊎ (by ≡ Exhausted) → reply ≡ Answered (Refused by) (resource_of_event e)
-      → Shows d log → Shows (after seat (effect_of e) reply d) (log ++ now)
+      → Shows d log → Shows (dues_after seat (effect_of e) reply d) (log ++ now)
   shown_declined d log now seat e reply by none why is shows =
-      let same = ap (λ (r : Reply R). after seat (effect_of e) r d) is ∙ unchanged seat d by why e in
+      let same = ap (λ (r : Reply R). dues_after seat (effect_of e) r d) is ∙ unchanged seat d by why e in
       subst (λ (x : Dues × List (Step R)). Shows x.0 x.1) (λ i. (sym same i, sym (ap (λ l. log ++ l) none ∙ append-nil log) i)) shows
 
   -- nothing was asked

@@ -34,10 +34,11 @@ use Rattle.jlr_log.specs.Rule.{Knows}
 use Rattle.jlr_log.specs.Views.{own}
 use Rattle.jlr_log.specs.Seeing.{Seen, AllOf}
 use Rattle.jlr_hall.specs.declared.step.Step.{Step}
-use Rattle.jlr_hall.specs.OneHistory.{AllSit, IsWhole, Trace, add, entry_of, events_of, is_ending, is_refused, replies_of, seat_of, step}
+use Rattle.jlr_hall.specs.OneHistory.{AllSit, IsWhole, Trace, add, step_entry, events_of, is_ending, is_refused_reply, replies_of, seat_of}
+use Rattle.jlr_hall.specs.OneHistory.{step}
 use Rattle.jlr_hall.specs.OneHistory.{trace, trace_of}
 use Rattle.jlr_hall.specs.Asking.{AskedIn, gave_up, is_cut, is_trace_full, may_cut, with_cut}
-use Rattle.jlr_hall.specs.Locking.{IsLocked, after, effect_of}
+use Rattle.jlr_hall.specs.Locking.{IsLocked, dues_after, effect_of}
 use Rattle.jlr_hall.specs.Telling.{added}
 use Rattle.jlr_hall.specs.declared.dues.Dues.{Dues}
 use Rattle.jlr_hall.proofs.Owing.{shown_declined, shown_now}
@@ -105,21 +106,21 @@ module _ {R : Type 0} where
 abbrev Leads : {R : Type 0} → Limits → List (Step R) → Kept R → Trace → Type 0
 Leads limits log core t = (run : IsRunOf limits (events_of log) (replies_of log) core) × (trace_of (trace 0 []) log run.choices ≡ t)
 
-not_refused : {R : Type 0} (reply : Reply R) → (was_refused reply → ⊥) → is_refused (answer_in reply) ≡ false
+not_refused : {R : Type 0} (reply : Reply R) → (was_refused reply → ⊥) → is_refused_reply (answer_in reply) ≡ false
 not_refused reply not_so = none (answer_in reply) not_so
   where
-    none : (o : Option Answer) → ((by : Refusal) × (o ≡ Some (Refused by)) → ⊥) → is_refused o ≡ false
+    none : (o : Option Answer) → ((by : Refusal) × (o ≡ Some (Refused by)) → ⊥) → is_refused_reply o ≡ false
     none None so = refl
     none (Some (Refused by)) so = absurd (so (by, refl))
     none (Some answer) so = refl
 
 module _ {R : Type 0} (seat : ℕ) (e : Event R) (reply : Reply R) (cuts : Bool) (chosen : Chosen) where
   -- the entry of a step that is no end which was refused
-  as_seated : (is_ending (ask_of e) && is_refused (answer_in reply)) ≡ false
-      → entry_of (step seat e reply cuts) chosen ≡ option_to_list (seated seat (ask_of e) (answer_in reply) chosen)
+  as_seated : (is_ending (ask_of e) && is_refused_reply (answer_in reply)) ≡ false
+      → step_entry (step seat e reply cuts) chosen ≡ option_to_list (seated seat (ask_of e) (answer_in reply) chosen)
   as_seated is = ap (λ b. cond b [] (option_to_list (seated seat (ask_of e) (answer_in reply) chosen))) is
 
-  as_none : (is_ending (ask_of e) && is_refused (answer_in reply)) ≡ true → entry_of (step seat e reply cuts) chosen ≡ []
+  as_none : (is_ending (ask_of e) && is_refused_reply (answer_in reply)) ≡ true → step_entry (step seat e reply cuts) chosen ≡ []
   as_none is = ap (λ b. cond b [] (option_to_list (seated seat (ask_of e) (answer_in reply) chosen))) is
 
 -- why a book declines
@@ -153,13 +154,13 @@ module _ {R : Type 0} (limits : Limits) (formed : IsWellFormed (empty_of limits)
   -- a step of the core, with no cut
   plainly : (h new : History R) (e : Event R) (reply : Reply R) (chosen : Chosen) → Leads limits log h.core (trace h.base h.entries)
       → IsStep h.core e reply chosen new.core
-      → new.base ≡ h.base → new.entries ≡ h.entries ++ entry_of (step seat e reply false) chosen → new.limits ≡ limits
+      → new.base ≡ h.base → new.entries ≡ h.entries ++ step_entry (step seat e reply false) chosen → new.limits ≡ limits
       → added seat h e reply new ≡ step seat e reply false ∷ []
       → added seat h e reply new ≡ with_cut seat h e reply (is_cut h e)
       → Tells limits log seat h e reply (added seat h e reply new) new
   plainly h new e reply chosen run now base entries limits_are is told =
       let s = step seat e reply false in
-      let t : trace h.base (h.entries ++ entry_of s chosen) ≡ trace new.base new.entries = λ i. trace (sym base i) (sym entries i) in
+      let t : trace h.base (h.entries ++ step_entry s chosen) ≡ trace new.base new.entries = λ i. trace (sym base i) (sym entries i) in
       let leads = subst (Leads limits (log ++ s ∷ []) new.core) t
       (one log h.core new.core (trace h.base h.entries) e reply false chosen run now) in
       record {
@@ -172,13 +173,13 @@ module _ {R : Type 0} (limits : Limits) (formed : IsWellFormed (empty_of limits)
   -- a step of the core, after a cut that gave up no cycle
   after_shut : (h new : History R) (e : Event R) (reply : Reply R) (chosen : Chosen) → Leads limits log h.core (trace h.base h.entries)
       → IsStep h.core e reply chosen new.core
-      → new.base ≡ last h → new.entries ≡ entry_of (step seat e reply true) chosen → new.limits ≡ limits
+      → new.base ≡ last h → new.entries ≡ step_entry (step seat e reply true) chosen → new.limits ≡ limits
       → added seat h e reply new ≡ step seat e reply true ∷ []
       → added seat h e reply new ≡ with_cut seat h e reply (is_cut h e)
       → Tells limits log seat h e reply (added seat h e reply new) new
   after_shut h new e reply chosen run now base entries limits_are is told =
       let s = step seat e reply true in
-      let t : trace (last h) (entry_of s chosen) ≡ trace new.base new.entries = λ i. trace (sym base i) (sym entries i) in
+      let t : trace (last h) (step_entry s chosen) ≡ trace new.base new.entries = λ i. trace (sym base i) (sym entries i) in
       let leads = subst (Leads limits (log ++ s ∷ []) new.core) t
       (one log h.core new.core (trace h.base h.entries) e reply true chosen run now) in
       record {
@@ -192,19 +193,19 @@ module _ {R : Type 0} (limits : Limits) (formed : IsWellFormed (empty_of limits)
   after_open : (h new : History R) (mid : Kept R) (e : Event R) (reply : Reply R) (chosen chosen' : Chosen)
       → Leads limits log h.core (trace h.base h.entries)
       → IsStep h.core (Asks Abandon) (Answered (Truth true) None) chosen' mid → IsStep mid e reply chosen new.core
-      → new.base ≡ last h + 1 → new.entries ≡ entry_of (step seat e reply true) chosen → new.limits ≡ limits
+      → new.base ≡ last h + 1 → new.entries ≡ step_entry (step seat e reply true) chosen → new.limits ≡ limits
       → added seat h e reply new ≡ gave_up seat true ++ step seat e reply true ∷ []
       → added seat h e reply new ≡ with_cut seat h e reply (is_cut h e)
       → Tells limits log seat h e reply (added seat h e reply new) new
   after_open h new mid e reply chosen chosen' run gives now base entries limits_are is told =
       let up : Step R = step seat (Asks Abandon) (Answered (Truth true) None) false in
       let s = step seat e reply true in
-      let given = h.entries ++ entry_of up chosen' in
+      let given = h.entries ++ step_entry up chosen' in
       let first = one log h.core mid (trace h.base h.entries) (Asks Abandon) (Answered (Truth true) None) false chosen' run gives in
       let second = one (log ++ up ∷ []) mid new.core (trace h.base given) e reply true chosen first now in
-      let long : length given ≡ length h.entries + 1 = length-append h.entries (entry_of up chosen') in
+      let long : length given ≡ length h.entries + 1 = length-append h.entries (step_entry up chosen') in
       let higher : h.base + length given ≡ new.base = omega (arith, base, long) in
-      let t : trace (h.base + length given) (entry_of s chosen) ≡ trace new.base new.entries = λ i. trace (higher i) (sym entries i) in
+      let t : trace (h.base + length given) (step_entry s chosen) ≡ trace new.base new.entries = λ i. trace (higher i) (sym entries i) in
       let leads = subst (Leads limits ((log ++ up ∷ []) ++ s ∷ []) new.core) t second in
       let joined = append_assoc log (up ∷ []) (s ∷ []) in
       record {
@@ -242,7 +243,7 @@ module _ {R : Type 0} (limits : Limits) (formed : IsWellFormed (empty_of limits)
 
   enters : (h new : History R) (e : Event R) (reply : Reply R) → Leads limits log h.core (trace h.base h.entries) → h.limits ≡ limits
       → may_cut (ask_of e) ≡ false
-      → (is_ending (ask_of e) && is_refused (answer_in reply)) ≡ false → Enters seat h e reply new
+      → (is_ending (ask_of e) && is_refused_reply (answer_in reply)) ≡ false → Enters seat h e reply new
       → Tells limits log seat h e reply (added seat h e reply new) new
   enters h new e reply run limits_are may written x =
       plainly h new e reply x.chosen run x.step (ap {A = History R} {B = ℕ} (λ y. y.base) x.adds)
@@ -254,10 +255,11 @@ module _ {R : Type 0} (limits : Limits) (formed : IsWellFormed (empty_of limits)
       → may_cut (ask_of e) ≡ false → is_ending (ask_of e) ≡ true
       → EndsBy seat h e reply new → Tells limits log seat h e reply (added seat h e reply new) new
   by_end h new e reply run limits_are may end (inl x) =
-      enters h new e reply run limits_are may (ap (λ b. b && is_refused (answer_in reply)) end ∙ not_refused reply x.1) x.0
+      enters h new e reply run limits_are may (ap (λ b. b && is_refused_reply (answer_in reply)) end ∙ not_refused reply x.1) x.0
   by_end h new e reply run limits_are may end (inr x) =
-      let refused : (is_ending (ask_of e) && is_refused (answer_in reply)) ≡ true = ap (λ b. b && is_refused (answer_in reply)) end
-      ∙ ap is_refused x.refused in
+      let refused : (is_ending (ask_of e) && is_refused_reply (answer_in reply)) ≡ true = ap (λ b. b && is_refused_reply (answer_in reply))
+      end
+      ∙ ap is_refused_reply x.refused in
       plainly h new e reply x.steps.0 run x.steps.1 (ap {A = History R} {B = ℕ} (λ y. y.base) x.stays)
       (ap {A = History R} {B = List Entry} (λ y. y.entries) x.stays ∙ sym (append-nil h.entries)
       ∙ ap (λ l. h.entries ++ l) (sym (as_none seat e reply false x.steps.0 refused)))
@@ -289,8 +291,8 @@ module _ {R : Type 0} (limits : Limits) (formed : IsWellFormed (empty_of limits)
       let entries = ap {A = History R} {B = List Entry} (λ y. y.entries) x.enters.adds in
       let same_limits = ap {A = History R} {B = Limits} (λ y. y.limits) x.enters.adds in
       let ends_nothing : is_ending (ask_of e) ≡ false = ap is_ending asks ∙ end in
-      let written : (is_ending (ask_of e) && is_refused (answer_in reply)) ≡ false =
-      ap (λ b. b && is_refused (answer_in reply)) ends_nothing in
+      let written : (is_ending (ask_of e) && is_refused_reply (answer_in reply)) ≡ false =
+      ap (λ b. b && is_refused_reply (answer_in reply)) ends_nothing in
       elim (nat_lt (length h.entries) h.limits.trace) as (λ b. nat_lt (length h.entries) h.limits.trace ≡ b
       → elim b as (λ _. Type 0) [ true ↦ x.ready ≡ h | false ↦ Cuts h x.ready ]
       → Tells limits log seat h e reply (added seat h e reply new) new) [
@@ -306,7 +308,7 @@ module _ {R : Type 0} (limits : Limits) (formed : IsWellFormed (empty_of limits)
         | false ↦ λ full cut.
             let full_is : with_cut seat h e reply (is_trace_full h) ≡ with_cut seat h e reply true =
             ap (λ b. with_cut seat h e reply (not b)) full in
-            let fresh : new.entries ≡ entry_of (step seat e reply true) x.enters.chosen =
+            let fresh : new.entries ≡ step_entry (step seat e reply true) x.enters.chosen =
             entries ∙ ap {A = List Entry} {B = List Entry}
             (λ l. l ++ option_to_list (seated seat (ask_of e) (answer_in reply) x.enters.chosen)) cut.entries
             ∙ sym (as_seated seat e reply true x.enters.chosen written) in
@@ -316,7 +318,7 @@ module _ {R : Type 0} (limits : Limits) (formed : IsWellFormed (empty_of limits)
     where
       cut_case : (h new : History R) (e : Event R) (reply : Reply R) (ready : History R) (chosen : Chosen)
           → Leads limits log h.core (trace h.base h.entries) → Cuts h ready → IsStep ready.core e reply chosen new.core
-          → new.base ≡ ready.base → new.entries ≡ entry_of (step seat e reply true) chosen → new.limits ≡ limits
+          → new.base ≡ ready.base → new.entries ≡ step_entry (step seat e reply true) chosen → new.limits ≡ limits
           → added seat h e reply new ≡ with_cut seat h e reply true
           → added seat h e reply new ≡ with_cut seat h e reply (is_cut h e) → (b : Bool) → h.core.machine.cycle_open ≡ b
           → Tells limits log seat h e reply (added seat h e reply new) new
@@ -337,7 +339,7 @@ module _ {R : Type 0} (limits : Limits) (formed : IsWellFormed (empty_of limits)
       elim (ask_of e) as (λ o. ask_of e ≡ o → StepsBy seat o h e reply new
       → Tells limits log seat h e reply (added seat h e reply new) new) [
         | None ↦ λ none x. enters h new e reply run limits_are (ap may_cut none)
-            (ap (λ o. is_ending o && is_refused (answer_in reply)) none) x
+            (ap (λ o. is_ending o && is_refused_reply (answer_in reply)) none) x
         | Some ask ↦ λ some x. elim (is_end ask) as (λ b. is_end ask ≡ b
             → elim b as (λ _. Type 0) [ true ↦ EndsBy seat h e reply new | false ↦ AsksBy seat h e reply new ]
             → Tells limits log seat h e reply (added seat h e reply new) new) [
@@ -362,7 +364,7 @@ whole_now limits log now seat h new e reply w t =
 
 pub locked_now : {R : Type 0} (limits : Limits) (d : Dues) (log now : List (Step R)) (seat : ℕ) (h new : History R) (e : Event R)
     (reply : Reply R) → seat < 256 → IsLocked limits h d log → Tells limits log seat h e reply now new
-    → IsLocked limits new (after seat (effect_of e) reply d) (log ++ now)
+    → IsLocked limits new (dues_after seat (effect_of e) reply d) (log ++ now)
 locked_now limits d log now seat h new e reply sits l t = record {
   whole = whole_now limits log now seat h new e reply l.whole t;
   shows = elim t.fate [

@@ -19,7 +19,7 @@ use Rattle.jlr_hall.specs.OneHistory.{IsWhole}
 use Rattle.jlr_hall.specs.Asking.{Asked, AskedIn, HasItsResource, found}
 use Rattle.jlr_hall.specs.Due.{HasLine, HasPending, IsDueAt, IsDueIn}
 use Rattle.jlr_hall.specs.Locking.{Under}
-use Rattle.jlr_hall.specs.Loops.{AsksOnly, AsksInTurn, Cleans, CleansIn, IsCleaners, job_in}
+use Rattle.jlr_hall.specs.Loops.{AsksOnly, AsksInTurn, Cleans, CleansIn, IsCleaners, job_handed}
 
 module _ {R : Type 0} (limits : Limits) where
   -- an ask where it may be asked in the history that it found
@@ -95,17 +95,17 @@ module _ {R : Type 0} (handling : Handling R) (limits : Limits) where
   cleans_more : (first mid last : Option (Job R)) (asks : List (Event R × Reply R)) (x : Event R × Reply R) → Cleans handling first asks mid
       → Cleans handling mid (x ∷ []) last → Cleans handling first (asks ++ x ∷ []) last
   cleans_more first mid last [] x c d = subst (λ (r : Option (Job R)). Cleans handling r (x ∷ []) last) c d
-  cleans_more None mid last (y ∷ asks) x c d = (c.0, c.1, cleans_more (job_in (job_by y.1)) mid last asks x c.2 d)
+  cleans_more None mid last (y ∷ asks) x c d = (c.0, c.1, cleans_more (job_handed (job_by y.1)) mid last asks x c.2 d)
   cleans_more (Some job) mid last (y ∷ asks) x c d = (c.0, cleans_more None mid last asks x c.1 d)
 
   -- a take-up, and the job that it gave, if any
   takes : (reply : Reply R) (old mid new : Seen (Step R)) → CleansIn handling limits old None mid
       → AskedAt limits (IsCleaners limits) mid (Asks TakeUp) reply new → HasItsResource reply
-      → CleansIn handling limits old (job_in (job_by reply)) new
+      → CleansIn handling limits old (job_handed (job_by reply)) new
   takes reply old mid new h asked its = (
     h.0 ++ (Asks TakeUp, reply) ∷ [],
     chain_more limits (IsCleaners limits) old h.0 mid new (Asks TakeUp) reply h.1 asked,
-    cleans_more None None (job_in (job_by reply)) h.0 (Asks TakeUp, reply) h.2 (refl, its, refl),
+    cleans_more None None (job_handed (job_by reply)) h.0 (Asks TakeUp, reply) h.2 (refl, its, refl),
   )
 
   -- where something stood in the line
@@ -118,7 +118,7 @@ module _ {R : Type 0} (handling : Handling R) (limits : Limits) where
       → job_by reply ≡ Ok job
       → CleansIn handling limits old (Some job) new
   takes_job log reply job old mid new h line asked its is =
-      subst (λ (r : Result (Job R) Answer). CleansIn handling limits old (job_in r) new) is
+      subst (λ (r : Result (Job R) Answer). CleansIn handling limits old (job_handed r) new) is
       (takes reply old mid new h (taken_up log reply mid new line asked) its)
 
   pub takes_none : (log : List (Step R)) (reply : Reply R) (answer : Answer) (old mid new : Seen (Step R))
@@ -126,7 +126,7 @@ module _ {R : Type 0} (handling : Handling R) (limits : Limits) where
       → job_by reply ≡ Err answer
       → CleansIn handling limits old None new
   takes_none log reply answer old mid new h line asked its is =
-      subst (λ (r : Result (Job R) Answer). CleansIn handling limits old (job_in r) new) is
+      subst (λ (r : Result (Job R) Answer). CleansIn handling limits old (job_handed r) new) is
       (takes reply old mid new h (taken_up log reply mid new line asked) its)
 
   -- the end of the job that runs

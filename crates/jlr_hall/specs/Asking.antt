@@ -92,13 +92,13 @@ module _ {R : Type 0} where
 
 -- ---- Jobs
 
-abbrev pub is_on_resource : Work → Bool
-is_on_resource (Note n) = false
-is_on_resource (OnResource rid) = true
+abbrev pub works_on_resource : Work → Bool
+works_on_resource (Note n) = false
+works_on_resource (OnResource rid) = true
 
 -- a job comes with a resource just where its work is on one
 abbrev pub HasItsResource : {R : Type 0} → Reply R → Type 0
-HasItsResource (Answered (Job action work) resource) = is_some resource ≡ is_on_resource work
+HasItsResource (Answered (Job action work) resource) = is_some resource ≡ works_on_resource work
 HasItsResource reply = Unit {0}
 
 -- ---- Whose ask it is

@@ -15,13 +15,13 @@ use Rattle.jlr_log.specs.Views.{own}
 use Rattle.jlr_book.specs.Histories.{History}
 use Rattle.jlr_book.specs.Due.{IsCycleDue}
 use Rattle.jlr_hall.specs.declared.step.Step.{Step}
-use Rattle.jlr_hall.specs.OneHistory.{IsWhole, is_refused, seat_of}
+use Rattle.jlr_hall.specs.OneHistory.{IsWhole, is_refused_reply, seat_of}
 
 -- ---- What answers say
 
-abbrev pub is_handle : Option Answer → Bool
-is_handle (Some (Handle h)) = true
-is_handle answer = false
+abbrev pub answers_handle : Option Answer → Bool
+answers_handle (Some (Handle h)) = true
+answers_handle answer = false
 
 -- a cycle began, or a whole collection was done
 abbrev pub is_collected : Option Answer → Bool
@@ -30,32 +30,32 @@ is_collected (Some Done) = true
 is_collected answer = false
 
 -- there is no room for a resource
-abbrev pub is_full : Option Answer → Bool
-is_full (Some (Refused ResourcesFull)) = true
-is_full answer = false
+abbrev pub is_resources_full : Option Answer → Bool
+is_resources_full (Some (Refused ResourcesFull)) = true
+is_resources_full answer = false
 
 module _ {R : Type 0} where
   -- ---- What a session has open
 
   -- one more where it opened a resource, one less but never below none where it was given one to finish it, and none
   -- once it left
-  abbrev pub counted : ℕ → Event R → Reply R → ℕ
-  counted n (Opened k outcome) reply = cond (is_handle (answer_in reply)) (n + 1) n
-  counted n (Asks (Clean k c)) reply = cond (is_some (resource_of_reply reply)) (n - 1) n
-  counted n (Asks (Close k h)) reply = cond (is_some (resource_of_reply reply)) (n - 1) n
-  counted n (Asks (Leave k)) reply = cond (is_refused (answer_in reply)) n 0
-  counted n event reply = n
+  abbrev pub count_after : ℕ → Event R → Reply R → ℕ
+  count_after n (Opened k outcome) reply = cond (answers_handle (answer_in reply)) (n + 1) n
+  count_after n (Asks (Clean k c)) reply = cond (is_some (resource_of_reply reply)) (n - 1) n
+  count_after n (Asks (Close k h)) reply = cond (is_some (resource_of_reply reply)) (n - 1) n
+  count_after n (Asks (Leave k)) reply = cond (is_refused_reply (answer_in reply)) n 0
+  count_after n event reply = n
 
   -- how many the session at a seat has open, by all that the seat asked
   abbrev pub open_at : ℕ → List (Step R) → ℕ
-  open_at seat log = fold (λ n e. counted n e.event e.reply) 0 (own seat_of seat log)
+  open_at seat log = fold (λ n e. count_after n e.event e.reply) 0 (own seat_of seat log)
 
   -- ---- What is owed
 
   -- a session leaves that has so many open, or there is no room for a resource
   abbrev pub owes : ℕ → Event R → Reply R → Bool
-  owes n (Asks (Leave k)) reply = not (is_refused (answer_in reply)) && nat_lt 0 n
-  owes n (Asks (Prepare k)) reply = is_full (answer_in reply)
+  owes n (Asks (Leave k)) reply = not (is_refused_reply (answer_in reply)) && nat_lt 0 n
+  owes n (Asks (Prepare k)) reply = is_resources_full (answer_in reply)
   owes n event reply = false
 
   -- a cycle begins, or all is collected at once

@@ -15,8 +15,8 @@ use Rattle.jlr_hall.specs.declared.effect.Effect.{Effect}
 use Rattle.jlr_hall.specs.declared.effect.Effect.TheVariants.{Closes, Collects, Finishes, Joins, Leaves, Nothing, Opens}
 use Rattle.jlr_hall.specs.declared.effect.Effect.TheVariants.{Prepares, Queues}
 use Rattle.jlr_hall.specs.declared.step.Step.{Step}
-use Rattle.jlr_hall.specs.OneHistory.{IsWhole, is_refused}
-use Rattle.jlr_hall.specs.Due.{IsOwed, is_collected, is_full, is_handle, open_at}
+use Rattle.jlr_hall.specs.OneHistory.{IsWhole, is_refused_reply}
+use Rattle.jlr_hall.specs.Due.{IsOwed, is_collected, is_resources_full, answers_handle, open_at}
 
 -- the book, and all that was asked
 pub record Under (R : Type 0) : Type 0 where
@@ -58,13 +58,13 @@ with_count seat n d = record d { opened = slice_set d.opened seat n }
 abbrev pub without : ℕ → Dues → Dues
 without seat d = record { opened = slice_set d.opened seat 0; owed = nat_lt 0 (count_at seat d) || d.owed }
 
-abbrev pub after : {R : Type 0} → ℕ → Effect → Reply R → Dues → Dues
-after seat Leaves reply d = cond (is_refused (answer_in reply)) d (without seat d)
-after seat Opens reply d = cond (is_handle (answer_in reply)) (with_count seat (count_at seat d + 1) d) d
-after seat Closes reply d = cond (is_some (resource_of_reply reply)) (with_count seat (count_at seat d - 1) d) d
-after seat Prepares reply d = cond (is_full (answer_in reply)) (record d { owed = true }) d
-after seat Collects reply d = cond (is_collected (answer_in reply)) (record d { owed = false }) d
-after seat effect reply d = d
+abbrev pub dues_after : {R : Type 0} → ℕ → Effect → Reply R → Dues → Dues
+dues_after seat Leaves reply d = cond (is_refused_reply (answer_in reply)) d (without seat d)
+dues_after seat Opens reply d = cond (answers_handle (answer_in reply)) (with_count seat (count_at seat d + 1) d) d
+dues_after seat Closes reply d = cond (is_some (resource_of_reply reply)) (with_count seat (count_at seat d - 1) d) d
+dues_after seat Prepares reply d = cond (is_resources_full (answer_in reply)) (record d { owed = true }) d
+dues_after seat Collects reply d = cond (is_collected (answer_in reply)) (record d { owed = false }) d
+dues_after seat effect reply d = d
 
 -- ---- What they say
 

@@ -48,9 +48,9 @@ module _ {R : Type 0} (limits : Limits) where
 
 -- ---- The cleaner, which is 255
 
-abbrev pub job_in : {R : Type 0} → Result (Job R) Answer → Option (Job R)
-job_in (Ok job) = Some job
-job_in (Err answer) = None
+abbrev pub job_handed : {R : Type 0} → Result (Job R) Answer → Option (Job R)
+job_handed (Ok job) = Some job
+job_handed (Err answer) = None
 
 module _ {R : Type 0} (handling : Handling R) where
   -- With this job running, then with that one: while none runs it takes up, and a job that runs is ended before the
@@ -58,7 +58,7 @@ module _ {R : Type 0} (handling : Handling R) where
   -- where it is a fault; ok for a note. A job comes with a resource just where its work is on one.
   abbrev pub Cleans : Option (Job R) → List (Event R × Reply R) → Option (Job R) → Type 0
   Cleans running [] last = last ≡ running
-  Cleans None (x ∷ asks) last = (x.0 ≡ (Asks TakeUp)) × HasItsResource x.1 × Cleans (job_in (job_by x.1)) asks last
+  Cleans None (x ∷ asks) last = (x.0 ≡ (Asks TakeUp)) × HasItsResource x.1 × Cleans (job_handed (job_by x.1)) asks last
   Cleans (Some job) (x ∷ asks) last = TellsFinished handling 255 job x.0 × Cleans None asks last
 
   -- nothing else was asked, and with that job running at the end

@@ -23,9 +23,9 @@ is_ending None = false
 is_ending (Some ask) = is_end ask
 
 -- an ask was refused
-abbrev pub is_refused : Option Answer → Bool
-is_refused (Some (Refused by)) = true
-is_refused answer = false
+abbrev pub is_refused_reply : Option Answer → Bool
+is_refused_reply (Some (Refused by)) = true
+is_refused_reply answer = false
 
 -- What a history is at some place: the number of the last entry that a cut took away, and the entries since.
 pub record Trace : Type 0 where
@@ -56,14 +56,14 @@ module _ {R : Type 0} where
   -- ---- Its trace
 
   -- the entry of a step: none of a piece of marking, and none of an end that was refused
-  abbrev pub entry_of : Step R → Chosen → List Entry
-  entry_of e chosen = cond (is_ending (ask_of e.event) && is_refused (answer_in e.reply)) []
+  abbrev pub step_entry : Step R → Chosen → List Entry
+  step_entry e chosen = cond (is_ending (ask_of e.event) && is_refused_reply (answer_in e.reply)) []
       (option_to_list (seated e.seat (ask_of e.event) (answer_in e.reply) chosen))
 
   -- a cut lets go the entries before it; their numbers stay taken
   abbrev pub add : Trace → Step R → Chosen → Trace
-  add t e chosen = cond e.cuts (trace (t.base + length t.entries) (entry_of e chosen))
-      (trace t.base (t.entries ++ entry_of e chosen))
+  add t e chosen = cond e.cuts (trace (t.base + length t.entries) (step_entry e chosen))
+      (trace t.base (t.entries ++ step_entry e chosen))
 
   abbrev pub trace_of : Trace → List (Step R) → List Chosen → Trace
   trace_of t [] choices = t

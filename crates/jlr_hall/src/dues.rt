@@ -1,7 +1,7 @@
 //! How many resources the sessions have open, and whether a cycle is owed, as the one history says it: kept step by
 //! step, so that nobody has to read the history, which exists in proofs alone.
 ghost use Rattle.std.specs.Prelude.{◌≡◌, ◌-◌, ◌+◌, ◌^◌, ℕ, ◌<◌, false, length};
-ghost use Rattle.jlr_hall.specs.Locking.{after, count_at, with_count, without};
+ghost use Rattle.jlr_hall.specs.Locking.{dues_after, count_at, with_count, without};
 
 use crate::effect::{
     Effect, gave_handle, gave_resource, lacks_resources, says_collected, was_refused,
@@ -44,7 +44,7 @@ impl Dues {
     /// What an answered event of a seat changes.
     pub(crate) fn after<R>(&mut self, seat: u8, effect: Effect, reply: &Reply<R>)
         requires { count_at seat self.old + 1 < 2 ^ 64 }
-        ensures { self.new ≡ after seat effect reply.now self.old }
+        ensures { self.new ≡ dues_after seat effect reply.now self.old }
     {
         match effect {
             Effect::Leaves => {

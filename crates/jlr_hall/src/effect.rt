@@ -1,8 +1,8 @@
 //! What an event may change of who waits and of what is owed, and what its reply says of that.
 ghost use Rattle.std.specs.Prelude.{◌≡◌, is_some, MatchOption, None, Some};
 ghost use Rattle.jlr_event.specs.Events.{answer_in, resource_of_reply};
-ghost use Rattle.jlr_hall.specs.OneHistory.{is_refused};
-ghost use Rattle.jlr_hall.specs.Due.{is_collected, is_full, is_handle};
+ghost use Rattle.jlr_hall.specs.OneHistory.{is_refused_reply};
+ghost use Rattle.jlr_hall.specs.Due.{is_collected, is_resources_full, answers_handle};
 ghost use Rattle.jlr_hall.specs.Locking.{effect_of, effect_of_ask};
 
 use jlr_event::event::{Event, Reply};
@@ -70,7 +70,7 @@ fn answer_of<R>(reply: &Reply<R>) -> Option<&Answer>
 
 /// Whether an event was refused.
 pub(crate) fn was_refused<R>(reply: &Reply<R>) -> bool
-    ensures { result ≡ is_refused (answer_in reply.now) }
+    ensures { result ≡ is_refused_reply (answer_in reply.now) }
 {
     matches!(answer_of(reply), Some(Answer::Refused(_)))
 }
@@ -92,7 +92,7 @@ pub(crate) fn says_collected<R>(reply: &Reply<R>) -> bool
 
 /// Whether a handle was given.
 pub(crate) fn gave_handle<R>(reply: &Reply<R>) -> bool
-    ensures { result ≡ is_handle (answer_in reply.now) }
+    ensures { result ≡ answers_handle (answer_in reply.now) }
 {
     matches!(answer_of(reply), Some(Answer::Handle(_)))
 }
@@ -112,7 +112,7 @@ pub(crate) fn gave_resource<R>(reply: &Reply<R>) -> bool
 
 /// Whether there was no room for a resource.
 pub(crate) fn lacks_resources<R>(reply: &Reply<R>) -> bool
-    ensures { result ≡ is_full (answer_in reply.now) }
+    ensures { result ≡ is_resources_full (answer_in reply.now) }
 {
     matches!(
         answer_of(reply),

@@ -7,7 +7,7 @@ ghost use Rattle.jlr_event.specs.Events.{ask_of};
 ghost use Rattle.jlr_machine.specs.declared.ask.Ask.TheVariants.{Remove};
 ghost use Rattle.jlr_event.specs.declared.event.Event.TheVariants.{Ask as Asks, Mark};
 ghost use Rattle.jlr_log.specs.Rule.{Knows};
-ghost use Rattle.jlr_log.specs.Seeing.{seen, whole};
+ghost use Rattle.jlr_log.specs.Seeing.{seen, whole_history};
 ghost use Rattle.jlr_hall.specs.OneHistory.{IsWhole, seat_of};
 ghost use Rattle.jlr_hall.specs.Asking.{Asked, AskedIn, HasItsResource, IsOwn};
 ghost use Rattle.jlr_hall.specs.Due.{HasMarking, IsDueIn};
@@ -67,7 +67,7 @@ pub(crate) struct Looks {
 
 impl<R: Drop, L: Naming + Limited> Locked<R, L> {
     pub(crate) fn new(book: Book<R>, keeper: Keeper<Step<R>, L>) -> Self
-        requires whole { IsWhole L.limits book keeper.all }
+        requires whole_history { IsWhole L.limits book keeper.all }
         requires none { keeper.all ≡ [] }
     {
         Locked {
@@ -116,7 +116,7 @@ impl<R: Drop, L: Naming + Limited> Locked<R, L> {
     /// session left with resources open or there was no room for a resource.
     pub(crate) fn is_due(&self) -> bool
         ensures due { IsTrue result ↔ IsDueIn self.now.book self.now.log }
-        ensures whole { IsWhole L.limits self.now.book self.now.log }
+        ensures whole_history { IsWhole L.limits self.now.book self.now.log }
     {
         self.book.marker_due() || self.dues.owed() && !self.book.cycle_open()
     }
@@ -131,7 +131,7 @@ impl<R: Drop, L: Naming + Limited> Locked<R, L> {
     /// Whether something is pending, for the handler.
     pub(crate) fn has_pending(&self) -> bool
         ensures pending { IsTrue result ↔ (self.now.book.core.machine.pending ≢ []) }
-        ensures whole { IsWhole L.limits self.now.book self.now.log }
+        ensures whole_history { IsWhole L.limits self.now.book self.now.log }
     {
         !self.book.pending_empty()
     }
@@ -139,7 +139,7 @@ impl<R: Drop, L: Naming + Limited> Locked<R, L> {
     /// Whether something stands in the cleaner's line.
     pub(crate) fn has_line(&self) -> bool
         ensures line { IsTrue result ↔ (self.now.book.core.machine.line ≢ []) }
-        ensures whole { IsWhole L.limits self.now.book self.now.log }
+        ensures whole_history { IsWhole L.limits self.now.book self.now.log }
     {
         !self.book.line_empty()
     }
@@ -207,7 +207,7 @@ fn note<R, L: Naming, J: Telling<Step<R>>>(
     requires seat { pass.old.seat ≡ seat }
     ensures knew { Knows seat_of seat pass.old.known keeper.old.all }
     ensures keeper { keeper.new ≡
-        whole (keeper.old.all ++ added seat was.now.value event.now.value reply.now book.now) keeper.old.dealt }
+        whole_history (keeper.old.all ++ added seat was.now.value event.now.value reply.now book.now) keeper.old.dealt }
     ensures pass { pass.new ≡
         seen seat (keeper.old.all ++ added seat was.now.value event.now.value reply.now book.now) }
 {

@@ -72,9 +72,9 @@ abbrev pub notes : Result (List ℕ) Refusal → Answer
 notes (Ok told) = answer.Notes told
 notes (Err by) = answer.Refused by
 
-abbrev pub faults : Result (List Failure) Refusal → Answer
-faults (Ok told) = answer.Faults told
-faults (Err by) = answer.Refused by
+abbrev pub told_faults : Result (List Failure) Refusal → Answer
+told_faults (Ok told) = answer.Faults told
+told_faults (Err by) = answer.Refused by
 
 -- ---- A call that gives nothing
 

@@ -18,9 +18,9 @@ use Rattle.jlr_heap.specs.declared.jobs.What.TheVariants.{Held, Note}
 use Rattle.jlr_heap.specs.Entries.{IsReplied}
 
 -- to the heap a call that the program made wrote nothing, or failed
-abbrev pub call_outcome : Result (Unit {0}) Fault → CallOutcome
-call_outcome (Ok done) = Wrote 0
-call_outcome (Err fault) = Failed fault
+abbrev pub outcome_of_call : Result (Unit {0}) Fault → CallOutcome
+outcome_of_call (Ok done) = Wrote 0
+outcome_of_call (Err fault) = Failed fault
 
 module _ {R : Type 0} where
   abbrev pub TellsWorkOf : Job R → ℕ → Work → Option R → Type 0

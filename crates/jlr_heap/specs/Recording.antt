@@ -11,19 +11,19 @@ use Rattle.jlr_book.specs.Histories.{History}
 use Rattle.jlr_book.specs.Rules.{BookSteps, was_refused}
 
 -- mutator k has seat k. Of the three behind them the second is the handler's
-abbrev pub handler_seat : {R : Type 0} → History R → ℕ
-handler_seat h = h.limits.sessions + 1
+abbrev pub recorded_handler_seat : {R : Type 0} → History R → ℕ
+recorded_handler_seat h = h.limits.sessions + 1
 
 module _ {R : Type 0} where
   -- a step of the handler, which handed something over
   abbrev pub HandsOne : History R → History R → Type 0
   HandsOne old new =
-      (reply : Reply R) × (what : Handed) × BookSteps (handler_seat old) old (Asks HandOver) reply new
+      (reply : Reply R) × (what : Handed) × BookSteps (recorded_handler_seat old) old (Asks HandOver) reply new
       × (answer_in reply ≡ Some (answer.Handed what))
 
   -- or was refused
   abbrev pub CannotHand : History R → History R → Type 0
-  CannotHand old new = (reply : Reply R) × BookSteps (handler_seat old) old (Asks HandOver) reply new
+  CannotHand old new = (reply : Reply R) × BookSteps (recorded_handler_seat old) old (Asks HandOver) reply new
       × was_refused reply
 
   -- such steps, which led to these
@@ -37,5 +37,5 @@ module _ {R : Type 0} where
       × (((new ≡ last) × (new.core.machine.pending ≡ [])) ⊎ CannotHand last new)
 
   -- each ask of mutator 0 is a step of the book, and a settling is steps of the handler
-  abbrev pub recorded : Asking (History R) R
-  recorded = record { mutator = λ _. 0; asks = BookSteps 0; settling = SettlesBook }
+  abbrev pub recorded_asking : Asking (History R) R
+  recorded_asking = record { mutator = λ _. 0; asks = BookSteps 0; settling = SettlesBook }

@@ -1,6 +1,6 @@
 //! The asks of a program: a method for each.
 ghost use Rattle.std.specs.Prelude.{◌≡◌};
-ghost use Rattle.jlr_heap.specs.Entries.{IsDone, IsEntry, counts, faults, handle, handle_or_null};
+ghost use Rattle.jlr_heap.specs.Entries.{IsDone, IsEntry, counts, told_faults, handle, handle_or_null};
 ghost use Rattle.jlr_heap.specs.Entries.{integer, names, notes, or_null, truth};
 
 use crate::handles::{Cleanable, Cleaner, Queue, Reference};
@@ -353,7 +353,7 @@ impl<K: Keeper> Heap<K> {
 
     /// The actions that failed, and how. It takes memory.
     pub fn faults(&mut self) -> Result<Items<Failure>, Refusal>
-        ensures { IsEntry K.asking self.old (Ask.Faults 0) (faults result) self.new }
+        ensures { IsEntry K.asking self.old (Ask.Faults 0) (told_faults result) self.new }
     {
         self.failed(Ask::Faults { mutator: me() })
     }

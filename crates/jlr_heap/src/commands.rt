@@ -6,7 +6,7 @@ ghost use Rattle.jlr_event.specs.Events.{outcome_of};
 ghost use Rattle.jlr_session.specs.Calls.{ReadsUpTo, Writes};
 ghost use Rattle.jlr_session.specs.Asks.{TellsConnected, TellsFinished, TellsOpened, TellsRead, TellsWritten};
 ghost use Rattle.jlr_session.specs.Asks.{job_by, out_by, prepared_by};
-ghost use Rattle.jlr_embed.specs.Kinds.{is_data, is_end, is_faulted, is_handle, is_told, is_wrote};
+ghost use Rattle.jlr_embed.specs.Kinds.{is_data, tells_done, is_faulted, is_handle, is_told, is_wrote};
 ghost use Rattle.jlr_heap.specs.Files.{IsAskedTwice, IsEntered, IsSaid, TellsClosed, count_outcome, count_told};
 ghost use Rattle.jlr_heap.specs.Files.{data_outcome, data_told, failure, finish_told, guard_told};
 
@@ -78,7 +78,7 @@ fn count(answer: &Answer) -> Result<WriteCount, Failed>
 
 /// That it ended.
 fn done(answer: &Answer) -> Result<(), Failed>
-    requires { is_told is_end answer.now ≡ true }
+    requires { is_told tells_done answer.now ≡ true }
     ensures { answer.now ≡ finish_told result }
 {
     match answer {

@@ -1,9 +1,9 @@
 //! Guards over what is the program's own, and jobs.
 ghost use Rattle.std.specs.Prelude.{◌≡◌, Err, Ok, false};
-ghost use Rattle.jlr_machine.specs.Data.{is_data};
+ghost use Rattle.jlr_machine.specs.Data.{is_data_outcome};
 ghost use Rattle.jlr_event.specs.Events.{outcome_of};
 ghost use Rattle.jlr_heap.specs.Entries.{GivesNothing, IsDone};
-ghost use Rattle.jlr_heap.specs.Guards.{IsTold, TellsBack, TellsGuarded, TellsTaken, TellsLent, call_outcome};
+ghost use Rattle.jlr_heap.specs.Guards.{IsTold, TellsBack, TellsGuarded, TellsTaken, TellsLent, outcome_of_call};
 
 use crate::handles::{Cleanable, Guard};
 use crate::heap::{Heap, me};
@@ -20,8 +20,8 @@ const CLEANER: u8 = 255;
 
 /// How a call ended.
 fn call_ended(ended: Result<(), Fault>) -> CallOutcome
-    ensures is { result ≡ call_outcome ended }
-    ensures none { is_data result ≡ false }
+    ensures is { result ≡ outcome_of_call ended }
+    ensures none { is_data_outcome result ≡ false }
 {
     match ended {
         Ok(()) => CallOutcome::Wrote(nothing_written()),
@@ -108,7 +108,7 @@ impl<K: Keeper> Heap<K> {
         held: K::Held,
         ended: Result<(), Fault>,
     ) -> Result<(), Declined<K::Held>>
-        ensures { IsTold K.asking TellsBack self.old (Event.CheckIn 0 (call_outcome ended) held) result self.new }
+        ensures { IsTold K.asking TellsBack self.old (Event.CheckIn 0 (outcome_of_call ended) held) result self.new }
     {
         let (answer, back) = self.keeper.carry(
             Event::CheckIn {

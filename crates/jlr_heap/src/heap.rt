@@ -3,7 +3,8 @@ ghost use Rattle.std.specs.Prelude.{◌≡◌, IfOk, MatchResult, Some, true};
 ghost use Rattle.jlr_core.specs.Events.{carries_none};
 ghost use Rattle.jlr_embed.specs.Kinds.{is_faults, is_handle, is_integer, is_names, is_notes, is_stat, is_truth};
 ghost use Rattle.jlr_embed.specs.Kinds.{kind_asked};
-ghost use Rattle.jlr_heap.specs.Entries.{CannotJoin, FollowsCall, HasJoined, IsDone, IsEntry, IsJoined, counts, faults};
+ghost use Rattle.jlr_heap.specs.Entries.{CannotJoin, FollowsCall, HasJoined, IsDone, IsEntry, IsJoined, counts};
+ghost use Rattle.jlr_heap.specs.Entries.{told_faults};
 ghost use Rattle.jlr_heap.specs.Entries.{handle};
 ghost use Rattle.jlr_heap.specs.Entries.{handle_or_null, integer, names, notes, truth};
 
@@ -210,7 +211,7 @@ impl<K: Keeper> Heap<K> {
     pub(crate) fn failed(&mut self, ask: Ask) -> Result<Items<Failure>, Refusal>
         requires plain { carries_none ask ≡ true }
         requires kind { kind_asked (Some ask) ≡ is_faults }
-        ensures { IsEntry K.asking self.old ask (faults result) self.new }
+        ensures { IsEntry K.asking self.old ask (told_faults result) self.new }
     {
         let answer = self.keeper.ask(ask);
         self.follow();

@@ -1,6 +1,6 @@
 //! What goes out: cleaning actions that were taken up, and what was handed in and declined.
 ghost use Rattle.std.specs.Prelude.{◌≡◌, Some, true};
-ghost use Rattle.jlr_embed.specs.Kinds.{GoesBack, is_job, is_out, is_told, job_suits, suits};
+ghost use Rattle.jlr_embed.specs.Kinds.{GoesBack, is_job_answer, is_lent, is_told, job_suits, suits};
 ghost use Rattle.jlr_machine.specs.declared.ask.Answer.TheVariants as answer;
 ghost use Rattle.jlr_heap.specs.Guards.{TellsTaken, TellsLent, TellsWorkOf};
 
@@ -56,7 +56,7 @@ fn job_of<R: Drop>(action: ActionNo, work: Work, held: Option<R>) -> Job<R>
 
 /// A job, or that there is none.
 pub(crate) fn taken<R: Drop>(answer: &Answer, held: Option<R>) -> Result<Option<Job<R>>, Refusal>
-    requires kind { is_told is_job answer.now ≡ true }
+    requires kind { is_told is_job_answer answer.now ≡ true }
     requires suits { suits answer.now held ≡ true }
     ensures { TellsTaken result answer.now held }
 {
@@ -70,7 +70,7 @@ pub(crate) fn taken<R: Drop>(answer: &Answer, held: Option<R>) -> Result<Option<
 
 /// What is lent.
 pub(crate) fn lent<R: Drop>(answer: &Answer, held: Option<R>) -> Result<R, Refusal>
-    requires kind { is_told is_out answer.now ≡ true }
+    requires kind { is_told is_lent answer.now ≡ true }
     requires suits { suits answer.now held ≡ true }
     ensures { TellsLent result answer.now held }
 {

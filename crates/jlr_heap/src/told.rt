@@ -2,7 +2,7 @@
 ghost use Rattle.std.specs.Prelude.{◌≡◌, true};
 ghost use Rattle.jlr_embed.specs.Kinds.{is_faults, is_handle, is_integer, is_names, is_notes, is_stat, is_told};
 ghost use Rattle.jlr_embed.specs.Kinds.{is_truth};
-ghost use Rattle.jlr_heap.specs.Entries.{counts, faults, handle, integer, names, notes, truth, GivesNothing};
+ghost use Rattle.jlr_heap.specs.Entries.{counts, told_faults, handle, integer, names, notes, truth, GivesNothing};
 
 use jlr_machine::ask::{Answer, Stat};
 use jlr_machine::items::Items;
@@ -100,7 +100,7 @@ pub(crate) fn notes(answer: Answer) -> Result<Items<u32>, Refusal>
 /// Failures.
 pub(crate) fn faults(answer: Answer) -> Result<Items<Failure>, Refusal>
     requires { is_told is_faults answer ≡ true }
-    ensures { faults result ≡ answer }
+    ensures { told_faults result ≡ answer }
 {
     match answer {
         Answer::Faults(told) => Ok(told),

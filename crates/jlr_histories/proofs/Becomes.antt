@@ -18,7 +18,7 @@ use Rattle.jlr_machine.specs.declared.object.Contents.{Contents}
 use Rattle.jlr_machine.specs.declared.object.Contents.TheVariants.{Typed, Elements}
 use Rattle.jlr_machine.specs.Calls.{spent}
 use Rattle.jlr_histories.specs.Sizes.{IsSameSize}
-use Rattle.jlr_histories.specs.Lives.{StaysOrGoes, may_follow, may_come_after, IsReferenceOn, IsCleanableOn}
+use Rattle.jlr_histories.specs.Lives.{StaysOrGoes, may_become, may_come_after, IsReferenceOn, IsCleanableOn}
 
 -- the referent of a reference goes only where P holds
 pub record IsKept (P : Type 0) (r t : ReferenceOf) : Type 0 where
@@ -60,7 +60,7 @@ plain_forth P x (Guard g) h = absurd h
 
 -- ---- The same object
 
-state_stays : (s : RefState) → may_follow s s ≡ true
+state_stays : (s : RefState) → may_become s s ≡ true
 state_stays Fresh = refl
 state_stays Pending = refl
 state_stays Queued = refl
@@ -149,7 +149,7 @@ referent_left : (kept : List ℕ) (o : Option ℕ) → StaysOrGoes o (referent_i
 referent_left kept None = inl refl
 referent_left kept (Some x) = elim (kept ∋ x) as (λ b. StaysOrGoes (Some x) (cond b (Some x) None)) [ true ↦ inl refl | false ↦ inr refl ]
 
-pended_state : (b : Bool) (s : RefState) → (b ≡ true → is_fresh s ≡ true) → may_follow s (cond b Pending s) ≡ true
+pended_state : (b : Bool) (s : RefState) → (b ≡ true → is_fresh s ≡ true) → may_become s (cond b Pending s) ≡ true
 pended_state false s h = state_stays s
 pended_state true Fresh h = refl
 pended_state true Pending h = absurd (both_ways false refl (h refl))

@@ -13,7 +13,7 @@ use Rattle.jlr_machine.specs.Run.{IsLegal, Run, apply}
 use Rattle.jlr_machine.specs.WellFormed.{IsWellFormed}
 use Rattle.jlr_laws.proofs.Allowed.{some_there}
 use Rattle.jlr_laws.proofs.Law.{legal_kept}
-use Rattle.jlr_histories.specs.Lives.{LivesOn, may_follow, enqueueings}
+use Rattle.jlr_histories.specs.Lives.{LivesOn, may_become, enqueueings}
 use Rattle.jlr_histories.specs.Laws.{EnqueuedAtMostOnce, EnqueuedOnItsWay}
 use Rattle.jlr_histories.proofs.Becomes.{Becomes}
 use Rattle.jlr_histories.proofs.Steps.{Clears}
@@ -32,7 +32,7 @@ been_in o = cond (some_and (λ s. not (is_unqueued s)) (state_in o)) 1 0
 abbrev enqueued_between : Option Object → Option Object → ℕ
 enqueued_between o p = cond (not (queued_in o) && queued_in p) 1 0
 
-states_counted : (a b : RefState) → may_follow a b ≡ true
+states_counted : (a b : RefState) → may_become a b ≡ true
     → cond (not (is_unqueued a)) 1 0 + cond (not (is_queued a) && is_queued b) 1 0 ≡ cond (not (is_unqueued b)) 1 0
 states_counted Fresh Fresh h = refl
 states_counted Fresh Pending h = refl

@@ -17,7 +17,7 @@ use Rattle.jlr_machine.specs.Run.{IsLegal, apply}
 use Rattle.jlr_machine.specs.WellFormed.{IsWellFormed, IsObjectAt, IsReferenceAt, IsCleanableAt, FitsItsState}
 use Rattle.jlr_laws.proofs.Allowed.{some_there}
 use Rattle.jlr_laws.proofs.Law.{legal_kept}
-use Rattle.jlr_histories.specs.Lives.{LivesOn, StaysOrGoes, stage, may_follow, clean_stage, may_come_after, IsReferenceLater, IsCleanableOn}
+use Rattle.jlr_histories.specs.Lives.{LivesOn, StaysOrGoes, stage, may_become, clean_stage, may_come_after, IsReferenceLater, IsCleanableOn}
 use Rattle.jlr_histories.specs.Lives.{IsCleanableLater}
 use Rattle.jlr_histories.specs.Sizes.{PlainKeepsItsSize}
 use Rattle.jlr_histories.specs.Laws.{ReferenceGoesForward, CleanableGoesForward, ReferenceLifeGoesForward, CleanableLifeGoesForward}
@@ -93,7 +93,7 @@ stays_or_goes old between new a (inr f) = inr f
 stays_or_goes old between new (inl e) (inl f) = inl (f ∙ e)
 stays_or_goes old between new (inr e) (inl f) = inr (f ∙ e)
 
-stage_up : (a b : RefState) → may_follow a b ≡ true → stage a ≤ stage b
+stage_up : (a b : RefState) → may_become a b ≡ true → stage a ≤ stage b
 stage_up Fresh b h = omega arith
 stage_up Pending Fresh h = absurd (both_ways false refl h)
 stage_up Pending b h = omega arith

@@ -25,7 +25,7 @@ use Rattle.jlr_laws.proofs.Frames.{no_some}
 use Rattle.jlr_laws.proofs.Keyed.{by_key, keyed_without, found_new, found_beside, found_gone, found_left, key_found}
 use Rattle.jlr_laws.proofs.Law.{legal_kept}
 use Rattle.jlr_laws.proofs.LegalKept.{entry, no_need}
-use Rattle.jlr_histories.specs.Lives.{is_job, is_job_of, take_ups, tells, is_refused, records, outcomes, running, IsRecorded}
+use Rattle.jlr_histories.specs.Lives.{is_job, is_job_for, take_ups, tells, is_refused, records, outcomes, running, IsRecorded}
 use Rattle.jlr_histories.specs.Laws.{TakeUpBeginsItsJob, JobRunsUntilItsOutcome, JobRunsOnUntilItsOutcome, FinishRecordsTheOutcome}
 use Rattle.jlr_histories.specs.Laws.{TakersFinishIsRecorded, OnlyOutcomesAreRecorded, OutcomesAreRecorded, TakeUpHasOneOutcomeOrRunsInRuns}
 use Rattle.jlr_histories.proofs.Takes.{legal_taking}
@@ -215,30 +215,30 @@ one_or_none b c e = ap {A = Bool} {B = ℕ} (λ b. cond b 1 0) e
 
 -- in one entry
 abbrev IsCounted : Machine → Entry → ℕ → Type 0
-IsCounted m e action = running m action + cond (is_job_of action e.answer) 1 0 ≡ cond (records action e) 1 0 + running (apply m e) action
+IsCounted m e action = running m action + cond (is_job_for action e.answer) 1 0 ≡ cond (records action e) 1 0 + running (apply m e) action
 
 -- where the action is neither taken up nor over
-unmoved : (m : Machine) (e : Entry) (action : ℕ) → is_job_of action e.answer ≡ false → records action e ≡ false
+unmoved : (m : Machine) (e : Entry) (action : ℕ) → is_job_for action e.answer ≡ false → records action e ≡ false
     → job_of (apply m e) action ≡ job_of m action → IsCounted m e action
 unmoved m e action a r same =
     let still : running (apply m e) action ≡ running m action = runs_if (apply m e) action (job_of m action) same in
-    omega (arith, one_or_none (is_job_of action e.answer) false a, one_or_none (records action e) false r, still)
+    omega (arith, one_or_none (is_job_for action e.answer) false a, one_or_none (records action e) false r, still)
 
 -- where it is taken up
-begins : (m : Machine) (e : Entry) (action : ℕ) (job : JobOf) → is_job_of action e.answer ≡ true → records action e ≡ false
+begins : (m : Machine) (e : Entry) (action : ℕ) (job : JobOf) → is_job_for action e.answer ≡ true → records action e ≡ false
     → job_of m action ≡ None → job_of (apply m e) action ≡ Some job → IsCounted m e action
 begins m e action job a r before now =
     let old : running m action ≡ 0 = runs_if m action None before in
     let new : running (apply m e) action ≡ 1 = runs_if (apply m e) action (Some job) now in
-    omega (arith, one_or_none (is_job_of action e.answer) true a, one_or_none (records action e) false r, old, new)
+    omega (arith, one_or_none (is_job_for action e.answer) true a, one_or_none (records action e) false r, old, new)
 
 -- and where it is over
-is_over : (m : Machine) (e : Entry) (action : ℕ) (job : JobOf) → is_job_of action e.answer ≡ false → records action e ≡ true
+is_over : (m : Machine) (e : Entry) (action : ℕ) (job : JobOf) → is_job_for action e.answer ≡ false → records action e ≡ true
     → job_of m action ≡ Some job → job_of (apply m e) action ≡ None → IsCounted m e action
 is_over m e action job a r before now =
     let old : running m action ≡ 1 = runs_if m action (Some job) before in
     let new : running (apply m e) action ≡ 0 = runs_if (apply m e) action None now in
-    omega (arith, one_or_none (is_job_of action e.answer) false a, one_or_none (records action e) true r, old, new)
+    omega (arith, one_or_none (is_job_for action e.answer) false a, one_or_none (records action e) true r, old, new)
 
 counted : (m : Machine) (e : Entry) (action : ℕ) → IsWellFormed m → IsLegal m e → IsCounted m e action
 counted m e action w l = elim (legal_working m e l) [
@@ -246,16 +246,16 @@ counted m e action w l = elim (legal_working m e l) [
       (ap (job_in action) same)
   | takes silent number work a same ↦ elim (cases_eq number action) [
     | inl p ↦
-        let handed : is_job_of action e.answer ≡ true = ap (is_job_of action) a ∙ eq-eqb number action p in
+        let handed : is_job_for action e.answer ≡ true = ap (is_job_for action) a ∙ eq-eqb number action p in
         let now : job_of (apply m e) action ≡ Some (job_for number work (taker e.ask)) = ap (job_of (apply m e)) (sym p)
         ∙ begun_here m e l w number work (taker e.ask) a same in
         begins m e action (job_for number work (taker e.ask)) handed (silent action)
         (ap (job_of m) (sym p) ∙ none_ran m e l w number work a) now
-    | inr d ↦ unmoved m e action (ap (is_job_of action) a ∙ ne_eqb number action d) (silent action)
+    | inr d ↦ unmoved m e action (ap (is_job_for action) a ∙ ne_eqb number action d) (silent action)
         (begun_beside m e l action number work (taker e.ask) same d)
   ]
   | ends job outcome asks said is same ↦
-      let quiet : is_job_of action e.answer ≡ false = a_job action e.answer (no_job m e l (ended_taken m (apply m e) job outcome same)) in
+      let quiet : is_job_for action e.answer ≡ false = a_job action e.answer (no_job m e l (ended_taken m (apply m e) job outcome same)) in
       elim (cases_eq job.action action) [
         | inl p ↦
             let told : records action e ≡ true = ap (λ z. records z e) (sym p) ∙ recording m e l job outcome asks said in
@@ -284,7 +284,7 @@ outcomes_are_recorded m n (e ∷ entries) action w run =
     omega (
       arith,
       counted m e action w run.0,
-      sum_by-cons (λ (x : Entry). cond (is_job_of action x.answer) 1 0) e entries,
+      sum_by-cons (λ (x : Entry). cond (is_job_for action x.answer) 1 0) e entries,
       sum_by-cons (λ (x : Entry). cond (records action x) 1 0) e entries,
       outcomes_are_recorded (apply m e) n entries action (legal_kept m e w run.0) run.1,
     )

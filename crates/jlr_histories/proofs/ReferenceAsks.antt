@@ -16,7 +16,7 @@ use Rattle.jlr_machine.specs.Calls.{with_given, field_set, unreferred, to_queue,
 use Rattle.jlr_machine.specs.WellFormed.{IsReferenceAt, IsQueueAt, IsWellFormed}
 use Rattle.jlr_laws.proofs.Sets.{in_front}
 use Rattle.jlr_laws.proofs.Frames.{no_some, some_same, set_other, is_queue_there}
-use Rattle.jlr_histories.specs.Lives.{may_follow}
+use Rattle.jlr_histories.specs.Lives.{may_become}
 use Rattle.jlr_histories.proofs.Becomes.{IsKept, Becomes, same_size, same_reference, same_cleanable, with_field_on, with_reference_on}
 use Rattle.jlr_histories.proofs.Changes.{IsOver, IsQuiet, quiet, quiet_on, quiet_over, over_quiet, over_on, changed_is, changed_over}
 use Rattle.jlr_histories.proofs.Changes.{changed, members_over, changed_twice}
@@ -51,7 +51,7 @@ cleared_over P m k h p =
 abbrev queued : ReferenceOf → ReferenceOf
 queued r = record r { state = Queued; queue = None }
 
-queued_state : (s : RefState) → is_unqueued s ≡ true → may_follow s Queued ≡ true
+queued_state : (s : RefState) → is_unqueued s ≡ true → may_become s Queued ≡ true
 queued_state Fresh h = refl
 queued_state Pending h = refl
 queued_state Queued h = refl
@@ -101,7 +101,7 @@ removed_on P r e =
         kind = refl;
         referent = inl refl;
         queue = inl refl;
-        state = subst (λ s. may_follow s Removed ≡ true) (sym e) refl;
+        state = subst (λ s. may_become s Removed ≡ true) (sym e) refl;
       };
       referent = inl refl;
     }

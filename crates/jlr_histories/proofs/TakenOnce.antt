@@ -17,7 +17,7 @@ use Rattle.jlr_machine.specs.Run.{IsLegal, Run, apply}
 use Rattle.jlr_machine.specs.WellFormed.{IsWellFormed, IsCleanableAt, IsUnspent}
 use Rattle.jlr_laws.proofs.Changes.{cleanable_same}
 use Rattle.jlr_laws.proofs.Law.{legal_kept}
-use Rattle.jlr_histories.specs.Lives.{may_come_after, is_job, is_job_of, take_ups}
+use Rattle.jlr_histories.specs.Lives.{may_come_after, is_job, is_job_for, take_ups}
 use Rattle.jlr_histories.specs.Laws.{TakenUpAtMostOnce, TakeUpsAreCounted}
 use Rattle.jlr_histories.proofs.Becomes.{Follows, cleanable_back}
 use Rattle.jlr_histories.proofs.Changes.{IsNewAt}
@@ -73,27 +73,27 @@ gone_stays m e action w l g =
 
 -- ---- One entry
 
-pub a_job : (action : ℕ) (a : Answer) → is_job a ≡ false → is_job_of action a ≡ false
+pub a_job : (action : ℕ) (a : Answer) → is_job a ≡ false → is_job_for action a ≡ false
 a_job action (Job x work) h = absurd (both_ways true h refl)
 a_job action a h = refl
 
 -- an action that is gone is not taken up
-not_again : (m : Machine) (e : Entry) (action : ℕ) → IsLegal m e → IsGone m action → is_job_of action e.answer ≡ false
+not_again : (m : Machine) (e : Entry) (action : ℕ) → IsLegal m e → IsGone m action → is_job_for action e.answer ≡ false
 not_again m e action l g = elim (legal_taking m e l) [
   | none t ↦ a_job action e.answer t.no_job
-  | one s c u a n h ↦ elim (cases_Bool (is_job_of action e.answer)) [
-    | inl yes_it ↦ absurd (g.none_left s c u (eqb-true c.action action (sym (ap (is_job_of action) a) ∙ yes_it)))
+  | one s c u a n h ↦ elim (cases_Bool (is_job_for action e.answer)) [
+    | inl yes_it ↦ absurd (g.none_left s c u (eqb-true c.action action (sym (ap (is_job_for action) a) ∙ yes_it)))
     | inr no_it ↦ no_it
   ]
 ]
 
 -- one that is taken up is gone
-gone_now : (m : Machine) (e : Entry) (action : ℕ) → IsWellFormed m → IsLegal m e → is_job_of action e.answer ≡ true
+gone_now : (m : Machine) (e : Entry) (action : ℕ) → IsWellFormed m → IsLegal m e → is_job_for action e.answer ≡ true
     → IsGone (apply m e) action
 gone_now m e action w l h = elim (legal_taking m e l) [
-  | none t ↦ absurd (both_ways (is_job_of action e.answer) (a_job action e.answer t.no_job) h)
+  | none t ↦ absurd (both_ways (is_job_for action e.answer) (a_job action e.answer t.no_job) h)
   | one s c u a n there ↦
-      let same : c.action ≡ action = eqb-true c.action action (sym (ap (is_job_of action) a) ∙ h) in
+      let same : c.action ≡ action = eqb-true c.action action (sym (ap (is_job_for action) a) ∙ h) in
       let small : c.action < m.next_action = (w.actions.of_cleanables s c u.there).1 in
       record {
         given = omega (arith, same, small, (legal_step m e w l).next);
@@ -120,7 +120,7 @@ never_again m n [] action w run g = refl
 never_again m n (e ∷ entries) action w run g =
     omega (
       arith,
-      sum_by-cons (λ (x : Entry). cond (is_job_of action x.answer) 1 0) e entries,
+      sum_by-cons (λ (x : Entry). cond (is_job_for action x.answer) 1 0) e entries,
       ap {A = Bool} {B = ℕ} (λ b. cond b 1 0) (not_again m e action run.0 g),
       never_again (apply m e) n entries action (legal_kept m e w run.0) run.1 (gone_stays m e action w run.0 g),
     )
@@ -129,8 +129,8 @@ pub taken_up_at_most_once : TakenUpAtMostOnce
 taken_up_at_most_once m n [] action w run = omega arith
 taken_up_at_most_once m n (e ∷ entries) action w run =
     let kept = legal_kept m e w run.0 in
-    let first = sum_by-cons (λ (x : Entry). cond (is_job_of action x.answer) 1 0) e entries in
-    elim (cases_Bool (is_job_of action e.answer)) [
+    let first = sum_by-cons (λ (x : Entry). cond (is_job_for action x.answer) 1 0) e entries in
+    elim (cases_Bool (is_job_for action e.answer)) [
       | inl h ↦ omega (
         arith,
         first,

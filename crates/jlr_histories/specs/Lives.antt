@@ -43,23 +43,23 @@ stage Queued = 2
 stage Removed = 3
 
 -- an entry keeps the state or leads to the next; the program may enqueue a Fresh reference, which then never is Pending
-abbrev pub may_follow : RefState → RefState → Bool
-may_follow Fresh Fresh = true
-may_follow Fresh Pending = true
-may_follow Fresh Queued = true
-may_follow Pending Pending = true
-may_follow Pending Queued = true
-may_follow Queued Queued = true
-may_follow Queued Removed = true
-may_follow Removed Removed = true
-may_follow _ _ = false
+abbrev pub may_become : RefState → RefState → Bool
+may_become Fresh Fresh = true
+may_become Fresh Pending = true
+may_become Fresh Queued = true
+may_become Pending Pending = true
+may_become Pending Queued = true
+may_become Queued Queued = true
+may_become Queued Removed = true
+may_become Removed Removed = true
+may_become _ _ = false
 
 -- what one entry may make of a reference
 pub record IsReferenceOn (old new : ReferenceOf) : Type 0 where
   pub kind : new.kind ≡ old.kind
   pub referent : StaysOrGoes old.referent new.referent
   pub queue : StaysOrGoes old.queue new.queue
-  pub state : IsTrue (may_follow old.state new.state)
+  pub state : IsTrue (may_become old.state new.state)
 
 -- and what the entries of a life may make of it
 pub record IsReferenceLater (old new : ReferenceOf) : Type 0 where
@@ -127,16 +127,16 @@ abbrev pub is_job : Answer → Bool
 is_job (Job action work) = true
 is_job _ = false
 
-abbrev pub is_job_of : ℕ → Answer → Bool
-is_job_of action (Job a work) = nat_eq a action
-is_job_of action _ = false
+abbrev pub is_job_for : ℕ → Answer → Bool
+is_job_for action (Job a work) = nat_eq a action
+is_job_for action _ = false
 
 -- how many entries take up an action, and how many this one
 abbrev pub all_take_ups : List Entry → ℕ
 all_take_ups entries = count_by (λ e. is_job e.answer) entries
 
 abbrev pub take_ups : ℕ → List Entry → ℕ
-take_ups action entries = count_by (λ e. is_job_of action e.answer) entries
+take_ups action entries = count_by (λ e. is_job_for action e.answer) entries
 
 -- ---- Outcomes
 

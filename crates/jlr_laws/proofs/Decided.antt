@@ -12,7 +12,8 @@ use Rattle.jlr_machine.specs.Collection.{is_ready}
 use Rattle.jlr_machine.specs.ReachSet.{reach_set}
 use Rattle.jlr_machine.specs.Edges.Chain.{Strong, UpToSoft}
 use Rattle.jlr_laws.specs.Laws.{IsWithinHeap, LosesReferent, only}
-use Rattle.jlr_laws.specs.Deciding.{holds_all, is_closed, goes_out, loses_referent, hands_over, CollectionsAreDecided, BackgroundIsDecided}
+use Rattle.jlr_laws.specs.Deciding.{holds_all, is_closed_set, goes_out, loses_referent, hands_over, CollectionsAreDecided}
+use Rattle.jlr_laws.specs.Deciding.{BackgroundIsDecided}
 use Rattle.jlr_laws.specs.Deciding.{ClearingIsDecided, are_objects}
 use Rattle.jlr_laws.proofs.Sets.{in_front, in_rest, all_gives}
 use Rattle.jlr_laws.proofs.Paths.{reached_sound, reached_complete}
@@ -59,7 +60,7 @@ Decides-four a b c d p q r s =
 abbrev IsStronglyClosed : Heap → List ℕ → Type 0
 IsStronglyClosed heap kept = (x y : ℕ) → x ∈ kept → y ∈ edges_from Strong heap x → y ∈ kept
 
-Decides-closed : (heap : Heap) (kept : List ℕ) → Decides (is_closed heap kept) (IsStronglyClosed heap kept)
+Decides-closed : (heap : Heap) (kept : List ℕ) → Decides (is_closed_set heap kept) (IsStronglyClosed heap kept)
 Decides-closed heap kept =
     let d = Decides-all (λ x. holds_all kept (edges_from Strong heap x)) (λ x. (y : ℕ) → y ∈ edges_from Strong heap x → y ∈ kept) kept
     (λ x. Decides-holds_all kept (edges_from Strong heap x)) in
@@ -134,7 +135,7 @@ collections_are_decided heap B kept pending w =
     let inside = Decides-all (λ s. reach_set UpToSoft (only kept heap) B ∋ s) (IsReached UpToSoft (only kept heap) B) kept
     (Decides-inside UpToSoft heap kept B w) in
     let four =
-    Decides-four (holds_all kept B) (is_closed heap kept) (holds_all (reach_set UpToSoft (only kept heap) B) kept)
+    Decides-four (holds_all kept B) (is_closed_set heap kept) (holds_all (reach_set UpToSoft (only kept heap) B) kept)
     (hands_over heap kept pending)
     (Decides-holds_all kept B) (Decides-closed heap kept) inside (Decides-hands_over heap kept pending) in (
       (λ h. let p = four.0 h in law.1 (record {
@@ -156,7 +157,7 @@ pub background_is_decided : BackgroundIsDecided
 background_is_decided m kept pending w i =
     let law = background_comes_down m kept pending w i in
     let four =
-    Decides-four (holds_all m.seen kept && are_objects m.objects kept) (holds_all kept (roots m)) (is_closed m.objects kept)
+    Decides-four (holds_all m.seen kept && are_objects m.objects kept) (holds_all kept (roots m)) (is_closed_set m.objects kept)
     (hands_over m.objects kept pending)
     (Decides-and (holds_all m.seen kept) (are_objects m.objects kept) (Decides-holds_all m.seen kept) (Decides-objects m.objects kept))
     (Decides-holds_all kept (roots m)) (Decides-closed m.objects kept) (Decides-hands_over m.objects kept pending) in (
@@ -198,7 +199,8 @@ clearing_is_decided m kept pending w =
     let strong = Decides-all (λ s. reach_set Strong (only kept m.objects) (roots m) ∋ s) (IsReached Strong (only kept m.objects) (roots m))
     kept (Decides-inside Strong m.objects kept (roots m) w) in
     let four =
-    Decides-four (holds_all kept (roots m)) (is_closed m.objects kept) (holds_all (reach_set Strong (only kept m.objects) (roots m)) kept)
+    Decides-four (holds_all kept (roots m)) (is_closed_set m.objects kept) (holds_all (reach_set Strong (only kept m.objects) (roots m))
+    kept)
     (hands_over m.objects kept pending)
     (Decides-holds_all kept (roots m)) (Decides-closed m.objects kept) strong (Decides-hands_over m.objects kept pending) in (
       (λ h.

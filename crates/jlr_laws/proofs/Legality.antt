@@ -32,8 +32,10 @@ use Rattle.jlr_laws.proofs.SeenKept.{now_seen_within}
 use Rattle.jlr_machine.specs.Run.IsLegal.{carried_out, refused, heap_full, out_of_memory}
 use Rattle.jlr_laws.specs.Laws.{IsWithinHeap, IsSeenWithin}
 use Rattle.jlr_laws.specs.Same.{same_answer}
-use Rattle.jlr_laws.specs.Deciding.{is_full, is_full_clearing, is_background, may_collect, gives_new_rid, is_answer, are_fresh, is_empty}
-use Rattle.jlr_laws.specs.Deciding.{chooses_nothing, is_carried_out, is_refused, leaves_too_few, is_heap_full, is_out_of_memory, is_legal}
+use Rattle.jlr_laws.specs.Deciding.{is_full, is_full_clearing, is_background, may_have_collected, gives_new_rid, is_answer, are_fresh}
+use Rattle.jlr_laws.specs.Deciding.{is_empty}
+use Rattle.jlr_laws.specs.Deciding.{chooses_nothing, is_carried_out, is_rightly_refused, leaves_too_few, is_heap_full, is_out_of_memory}
+use Rattle.jlr_laws.specs.Deciding.{is_legal}
 use Rattle.jlr_laws.specs.Deciding.{LegalityIsDecided, SeenIsWithin}
 use Rattle.jlr_laws.proofs.Empty.{well_formed_within}
 use Rattle.jlr_laws.proofs.Decided.{Decides-true, Decides-three, Decides-four, collections_are_decided, background_is_decided}
@@ -190,7 +192,7 @@ module _ (m : Machine) (w : IsWithinHeap m.objects (roots m)) (i : IsSeenWithin 
   no_room cells c = Decides-and (not (has_room m cells)) (is_full_clearing m c.kept c.pending) (Decides-true (not (has_room m cells)))
       (Decides-clearing c)
 
-  Decides-may_collect : (ask : Ask) (c : Option Collected) → Decides (may_collect m ask c) (MayCollect m ask c)
+  Decides-may_collect : (ask : Ask) (c : Option Collected) → Decides (may_have_collected m ask c) (MayCollect m ask c)
   Decides-may_collect (Join a0) (Some c) = no_room (cells_needed (Join a0)) c
   Decides-may_collect (Join a0) None = Decides-true (has_room m (cells_needed (Join a0)))
   Decides-may_collect (Leave a0) (Some c) = no_room (cells_needed (Leave a0)) c
@@ -285,7 +287,7 @@ module _ (m : Machine) (w : IsWithinHeap m.objects (roots m)) (i : IsSeenWithin 
   Decides-carried_out e =
       let n = with_collection m e.choice.collected in
       let four =
-      Decides-four (is_none (refusal m e.ask)) (may_collect m e.ask e.choice.collected)
+      Decides-four (is_none (refusal m e.ask)) (may_have_collected m e.ask e.choice.collected)
       (are_fresh n.objects (cells_needed e.ask) e.choice.fresh) (is_answer n e.ask e.choice.collected e.answer)
       (Decides-none (refusal m e.ask)) (Decides-may_collect e.ask e.choice.collected)
       (Decides-fresh n.objects (cells_needed e.ask) e.choice.fresh) (Decides-is_answer n e.ask e.choice.collected e.answer) in (
@@ -293,7 +295,7 @@ module _ (m : Machine) (w : IsWithinHeap m.objects (roots m)) (i : IsSeenWithin 
         (λ r. four.1 (r.allowed, r.collection, r.fresh, r.answers)),
       )
 
-  Decides-refused : (e : Entry) → Decides (is_refused m e) (IsRefused m e)
+  Decides-refused : (e : Entry) → Decides (is_rightly_refused m e) (IsRefused m e)
   Decides-refused e =
       let named = Decides-some_and (λ by. same_answer e.answer (Refused by)) (λ by. e.answer ≡ Refused by)
       (λ by. Decides-answer e.answer (Refused by)) (refusal m e.ask) in
@@ -353,7 +355,7 @@ module _ (m : Machine) (w : IsWithinHeap m.objects (roots m)) (i : IsSeenWithin 
   pub any_case : (e : Entry) → IsTrue (is_legal m e) → IsLegal m e
   any_case e h =
       let a = is_carried_out m e in
-      let b = is_refused m e in
+      let b = is_rightly_refused m e in
       let c = is_heap_full m e in
       elim (or_cases (a || b || c) (is_out_of_memory m e) h) [
         | inl h ↦ elim (or_cases (a || b) c h) [
@@ -367,16 +369,16 @@ module _ (m : Machine) (w : IsWithinHeap m.objects (roots m)) (i : IsSeenWithin 
       ]
 
   each_case : (e : Entry) → IsLegal m e → IsTrue (is_legal m e)
-  each_case e (carried_out r) = or_left (is_carried_out m e || is_refused m e || is_heap_full m e) (is_out_of_memory m e)
-      (or_left (is_carried_out m e || is_refused m e) (is_heap_full m e)
-      (or_left (is_carried_out m e) (is_refused m e) ((Decides-carried_out e).1 r)))
-  each_case e (refused r) = or_left (is_carried_out m e || is_refused m e || is_heap_full m e) (is_out_of_memory m e)
-      (or_left (is_carried_out m e || is_refused m e) (is_heap_full m e)
-      (or_right (is_carried_out m e) (is_refused m e) ((Decides-refused e).1 r)))
-  each_case e (heap_full r) = or_left (is_carried_out m e || is_refused m e || is_heap_full m e) (is_out_of_memory m e)
-      (or_right (is_carried_out m e || is_refused m e) (is_heap_full m e) ((Decides-heap_full e).1 r))
+  each_case e (carried_out r) = or_left (is_carried_out m e || is_rightly_refused m e || is_heap_full m e) (is_out_of_memory m e)
+      (or_left (is_carried_out m e || is_rightly_refused m e) (is_heap_full m e)
+      (or_left (is_carried_out m e) (is_rightly_refused m e) ((Decides-carried_out e).1 r)))
+  each_case e (refused r) = or_left (is_carried_out m e || is_rightly_refused m e || is_heap_full m e) (is_out_of_memory m e)
+      (or_left (is_carried_out m e || is_rightly_refused m e) (is_heap_full m e)
+      (or_right (is_carried_out m e) (is_rightly_refused m e) ((Decides-refused e).1 r)))
+  each_case e (heap_full r) = or_left (is_carried_out m e || is_rightly_refused m e || is_heap_full m e) (is_out_of_memory m e)
+      (or_right (is_carried_out m e || is_rightly_refused m e) (is_heap_full m e) ((Decides-heap_full e).1 r))
   each_case e (out_of_memory r) =
-      or_right (is_carried_out m e || is_refused m e || is_heap_full m e) (is_out_of_memory m e) ((Decides-out_of_memory e).1 r)
+      or_right (is_carried_out m e || is_rightly_refused m e || is_heap_full m e) (is_out_of_memory m e) ((Decides-out_of_memory e).1 r)
 
 pub legality_is_decided : LegalityIsDecided
 legality_is_decided m e w = (any_case m (well_formed_within m w) w.seen_within e, each_case m (well_formed_within m w) w.seen_within e)

@@ -6,7 +6,7 @@ use Rattle.jlr_machine.specs.declared.ask.Ask.TheVariants.{Begin, Collect}
 use Rattle.jlr_machine.specs.declared.ask.FullMode.TheVariants.{Policy}
 use Rattle.jlr_machine.specs.declared.ask.Answer.TheVariants.{Done, Handle, Truth, Stat as StatAnswer, Refused}
 use Rattle.jlr_machine.specs.declared.entry.Entry.{Entry}
-use Rattle.jlr_laws.specs.Rows.{entry, making, collecting, stat}
+use Rattle.jlr_laws.specs.Rows.{entry, making, collecting_entry, stat}
 
 -- `array 3; new -; put 1 2 2; drop 2; gc; get 1 2; get 1 3; put 1 3 0; int 1 0; stat; get 1 4095`: an element holds
 -- what it refers to
@@ -17,7 +17,7 @@ array_row =
     ∷ making (New 0 []) (Handle 2) 1
     ∷ entry (Put 0 1 2 2) Done
     ∷ entry (Drop 0 2) Done
-    ∷ collecting (Full 0 Policy) Done (0 ∷ 1 ∷ []) []
+    ∷ collecting_entry (Full 0 Policy) Done (0 ∷ 1 ∷ []) []
     ∷ entry (Get 0 1 2) (Handle 2)
     ∷ entry (Get 0 1 3) (Refused NoField)
     ∷ entry (Put 0 1 3 0) (Refused NoField)
@@ -37,6 +37,6 @@ array_in_cycle_row =
     ∷ entry (Drop 0 2) Done
     ∷ entry Begin (Truth true)
     ∷ entry Collect (Truth false)
-    ∷ collecting Collect (Truth true) (0 ∷ 1 ∷ []) []
+    ∷ collecting_entry Collect (Truth true) (0 ∷ 1 ∷ []) []
     ∷ entry (Get 0 1 129) (Handle 2)
     ∷ []

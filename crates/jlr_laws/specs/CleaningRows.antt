@@ -16,7 +16,7 @@ use Rattle.jlr_machine.specs.declared.ask.Answer.TheVariants.{Faults as FaultsAn
 use Rattle.jlr_machine.specs.declared.ask.Answer.TheVariants.{AlreadyDone, Prepared, Out, Handed as HandedAnswer}
 use Rattle.jlr_machine.specs.declared.ask.Answer.TheVariants.{Refused}
 use Rattle.jlr_machine.specs.declared.entry.Entry.{Entry}
-use Rattle.jlr_laws.specs.Rows.{entry, making, preparing, collecting, stat}
+use Rattle.jlr_laws.specs.Rows.{entry, making, preparing, collecting_entry, stat}
 
 -- `cleaner; new -; register 1 2 7; drop 2; gc; notes; clean 3; notes`
 abbrev pub cleaner_row : List Entry
@@ -26,7 +26,7 @@ cleaner_row =
     ∷ making (New 0 []) (Handle 2) 1
     ∷ making (Register 0 1 2 7) (Handle 3) 2
     ∷ entry (Drop 0 2) Done
-    ∷ collecting (Full 0 Policy) Done (0 ∷ 2 ∷ []) (2 ∷ [])
+    ∷ collecting_entry (Full 0 Policy) Done (0 ∷ 2 ∷ []) (2 ∷ [])
     ∷ entry HandOver (HandedAnswer HandedLined)
     ∷ entry TakeUp (Job 1 (Note 7))
     ∷ entry (Finish 255 1 OutcomeOk) Done
@@ -48,7 +48,7 @@ file_row =
     ∷ entry (CheckOut 0 1) (Out 0)
     ∷ entry (CheckIn 0 (GotWrote 2)) (Wrote 2)
     ∷ entry (Drop 0 1) Done
-    ∷ collecting (Full 0 Policy) Done (3 ∷ []) (3 ∷ [])
+    ∷ collecting_entry (Full 0 Policy) Done (3 ∷ []) (3 ∷ [])
     ∷ entry HandOver (HandedAnswer HandedLined)
     ∷ entry TakeUp (Job 2 (WorkOn 0))
     ∷ entry (Finish 255 2 OutcomeOk) Done
@@ -73,13 +73,13 @@ failed_cleaning_row =
     ∷ making (New 0 []) (Handle 3) 3
     ∷ making (Register 0 2 3 9) (Handle 4) 4
     ∷ entry (Drop 0 1) Done
-    ∷ collecting (Full 0 Policy) Done (1 ∷ 2 ∷ 3 ∷ 4 ∷ []) (1 ∷ [])
+    ∷ collecting_entry (Full 0 Policy) Done (1 ∷ 2 ∷ 3 ∷ 4 ∷ []) (1 ∷ [])
     ∷ entry HandOver (HandedAnswer HandedLined)
     ∷ entry TakeUp (Job 1 (WorkOn 0))
     ∷ entry (Finish 255 1 (Failed Other)) (Faulted Other)
     ∷ entry (Faults 0) (FaultsAnswer (record { action = 1; fault = Other } ∷ []))
     ∷ entry (Drop 0 3) Done
-    ∷ collecting (Full 0 Policy) Done (2 ∷ 4 ∷ []) (4 ∷ [])
+    ∷ collecting_entry (Full 0 Policy) Done (2 ∷ 4 ∷ []) (4 ∷ [])
     ∷ entry HandOver (HandedAnswer HandedLined)
     ∷ entry TakeUp (Job 2 (Note 9))
     ∷ entry (Finish 255 2 OutcomeOk) Done
@@ -132,7 +132,7 @@ two_sessions_row =
     entry (Join 0) Done
     ∷ entry (Join 1) Done
     ∷ preparing (Prepare 0) (Prepared 0) 0 1
-    ∷ collecting (Full 1 Policy) Done (0 ∷ 1 ∷ []) []
+    ∷ collecting_entry (Full 1 Policy) Done (0 ∷ 1 ∷ []) []
     ∷ entry (Opened 0 OutcomeOk) (Handle 1)
     ∷ entry (Stat 1) (StatAnswer (stat 2 1 0 0 0))
     ∷ []

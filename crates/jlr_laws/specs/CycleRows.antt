@@ -10,7 +10,7 @@ use Rattle.jlr_machine.specs.declared.ask.Handed.TheVariants.{Queued as HandedQu
 use Rattle.jlr_machine.specs.declared.ask.Answer.TheVariants.{Done, Handle, Truth, Stat as StatAnswer}
 use Rattle.jlr_machine.specs.declared.ask.Answer.TheVariants.{Handed as HandedAnswer, Refused}
 use Rattle.jlr_machine.specs.declared.entry.Entry.{Entry}
-use Rattle.jlr_laws.specs.Rows.{entry, making, collecting, collecting_for, stat}
+use Rattle.jlr_laws.specs.Rows.{entry, making, collecting_entry, collecting_for, stat}
 
 -- `Join, Collect, Abandon, Begin, Begin, Abandon`
 abbrev pub cycle_row : List Entry
@@ -34,7 +34,7 @@ snapshot_row =
     ∷ entry Begin (Truth true)
     ∷ entry (Get 0 1 0) (Handle 2)
     ∷ entry (Put 0 1 0 0) Done
-    ∷ collecting Collect (Truth true) (0 ∷ 1 ∷ []) []
+    ∷ collecting_entry Collect (Truth true) (0 ∷ 1 ∷ []) []
     ∷ entry (Stat 0) (StatAnswer (stat 2 0 0 0 0))
     ∷ []
 
@@ -47,7 +47,7 @@ deref_in_cycle_row =
     ∷ entry (Drop 0 1) Done
     ∷ entry Begin (Truth true)
     ∷ entry (Deref 0 2) (Handle 1)
-    ∷ collecting Collect (Truth true) (0 ∷ 1 ∷ []) []
+    ∷ collecting_entry Collect (Truth true) (0 ∷ 1 ∷ []) []
     ∷ entry (Deref 0 2) (Handle 3)
     ∷ []
 
@@ -61,7 +61,7 @@ seen_reference_row =
     ∷ entry (Drop 0 2) Done
     ∷ entry Begin (Truth true)
     ∷ entry (Drop 0 3) Done
-    ∷ collecting Collect (Truth true) (0 ∷ 2 ∷ []) (2 ∷ [])
+    ∷ collecting_entry Collect (Truth true) (0 ∷ 2 ∷ []) (2 ∷ [])
     ∷ entry HandOver (HandedAnswer HandedQueued)
     ∷ entry (Poll 0 1) (Handle 2)
     ∷ []
@@ -74,7 +74,7 @@ soft_cleared_in_cycle_row =
     ∷ making (MakeRef 0 Soft 1 0) (Handle 2) 1
     ∷ entry (Drop 0 1) Done
     ∷ entry Begin (Truth true)
-    ∷ collecting Collect (Truth true) (1 ∷ []) []
+    ∷ collecting_entry Collect (Truth true) (1 ∷ []) []
     ∷ entry (Deref 0 2) (Handle 0)
     ∷ []
 
@@ -86,7 +86,7 @@ soft_kept_in_cycle_row =
     ∷ making (MakeRef 0 Soft 1 0) (Handle 2) 1
     ∷ entry (Drop 0 1) Done
     ∷ entry Begin (Truth true)
-    ∷ collecting Collect (Truth true) (0 ∷ 1 ∷ []) []
+    ∷ collecting_entry Collect (Truth true) (0 ∷ 1 ∷ []) []
     ∷ entry (Deref 0 2) (Handle 1)
     ∷ []
 
@@ -100,7 +100,7 @@ waiting_collect_row =
     ∷ entry (Drop 0 2) Done
     ∷ entry Begin (Truth true)
     ∷ entry Collect (Truth false)
-    ∷ collecting Collect (Truth true) (0 ∷ 1 ∷ []) []
+    ∷ collecting_entry Collect (Truth true) (0 ∷ 1 ∷ []) []
     ∷ []
 
 -- `Join`, sixteen `New -`, `Begin, New -, Collect, Drop 1, New -`: a full heap closes the cycle
@@ -124,7 +124,7 @@ full_heap_in_cycle_row =
     ∷ making (New 0 []) (Handle 15) 14
     ∷ making (New 0 []) (Handle 16) 15
     ∷ entry Begin (Truth true)
-    ∷ collecting (New 0 []) (Refused HeapFull)
+    ∷ collecting_entry (New 0 []) (Refused HeapFull)
     (0 ∷ 1 ∷ 2 ∷ 3 ∷ 4 ∷ 5 ∷ 6 ∷ 7 ∷ 8 ∷ 9 ∷ 10 ∷ 11 ∷ 12 ∷ 13 ∷ 14 ∷ 15 ∷ []) []
     ∷ entry Collect (Truth false)
     ∷ entry (Drop 0 1) Done
@@ -144,7 +144,7 @@ poll_in_cycle_row =
     ∷ entry (Drop 0 2) Done
     ∷ entry Begin (Truth true)
     ∷ entry (Poll 0 1) (Handle 2)
-    ∷ collecting Collect (Truth true) (0 ∷ 2 ∷ []) []
+    ∷ collecting_entry Collect (Truth true) (0 ∷ 2 ∷ []) []
     ∷ entry (Enqueued 0 2) (Truth false)
     ∷ entry (Stat 0) (StatAnswer (stat 2 0 0 0 0))
     ∷ []
@@ -178,7 +178,7 @@ many_dropped_row =
     ∷ entry (Drop 0 7) Done
     ∷ entry (Drop 0 8) Done
     ∷ entry Begin (Truth true)
-    ∷ collecting Collect (Truth true) (8 ∷ 9 ∷ 10 ∷ 11 ∷ 12 ∷ 13 ∷ 14 ∷ 15 ∷ []) []
+    ∷ collecting_entry Collect (Truth true) (8 ∷ 9 ∷ 10 ∷ 11 ∷ 12 ∷ 13 ∷ 14 ∷ 15 ∷ []) []
     ∷ entry (Stat 0) (StatAnswer (stat 8 0 0 0 0))
     ∷ making (New 0 []) (Handle 1) 0
     ∷ making (New 0 []) (Handle 2) 1

@@ -31,8 +31,8 @@ use Rattle.jlr_laws.specs.Laws.{IsWithinHeap, IsSeenWithin, only}
 abbrev pub holds_all : List ℕ → List ℕ → Bool
 holds_all kept slots = list_all (λ s. kept ∋ s) slots
 
-abbrev pub is_closed : Heap → List ℕ → Bool
-is_closed heap kept = list_all (λ x. holds_all kept (edges_from Strong heap x)) kept
+abbrev pub is_closed_set : Heap → List ℕ → Bool
+is_closed_set heap kept = list_all (λ x. holds_all kept (edges_from Strong heap x)) kept
 
 -- it is ready, and has a referent that is not kept
 abbrev pub goes_out : List ℕ → Object → Bool
@@ -50,7 +50,7 @@ hands_over heap kept pending =
 
 -- what is kept is what the chain reaches inside
 abbrev pub cuts_off : Chain → Heap → List ℕ → List ℕ → List ℕ → Bool
-cuts_off chain heap B kept pending = holds_all kept B && is_closed heap kept
+cuts_off chain heap B kept pending = holds_all kept B && is_closed_set heap kept
     && holds_all (reach_set chain (only kept heap) B) kept && hands_over heap kept pending
 
 abbrev pub is_collection : Heap → List ℕ → List ℕ → List ℕ → Bool
@@ -61,7 +61,7 @@ are_objects heap slots = list_all (λ s. is_some (at heap s)) slots
 
 abbrev pub cuts_off_in_background : Heap → List ℕ → List ℕ → List ℕ → List ℕ → Bool
 cuts_off_in_background heap base seen kept pending = holds_all seen kept && are_objects heap kept && holds_all kept base
-    && is_closed heap kept && hands_over heap kept pending
+    && is_closed_set heap kept && hands_over heap kept pending
 
 abbrev pub is_background : Machine → List ℕ → List ℕ → Bool
 is_background m kept pending = cuts_off_in_background m.objects (roots m) m.seen kept pending
@@ -86,14 +86,14 @@ ClearingIsDecided = (m : Machine) (kept pending : List ℕ) → IsWithinHeap m.o
 
 -- ---- Entries
 
-abbrev pub may_collect : Machine → Ask → Option Collected → Bool
-may_collect m (Full k Policy) (Some c) = is_full m c.kept c.pending
-may_collect m (Full k ClearAll) (Some c) = is_full_clearing m c.kept c.pending
-may_collect m (Full k mode) None = false
-may_collect m Collect (Some c) = m.cycle_open && is_background m c.kept c.pending
-may_collect m Collect None = true
-may_collect m ask (Some c) = not (has_room m (cells_needed ask)) && is_full_clearing m c.kept c.pending
-may_collect m ask None = has_room m (cells_needed ask)
+abbrev pub may_have_collected : Machine → Ask → Option Collected → Bool
+may_have_collected m (Full k Policy) (Some c) = is_full m c.kept c.pending
+may_have_collected m (Full k ClearAll) (Some c) = is_full_clearing m c.kept c.pending
+may_have_collected m (Full k mode) None = false
+may_have_collected m Collect (Some c) = m.cycle_open && is_background m c.kept c.pending
+may_have_collected m Collect None = true
+may_have_collected m ask (Some c) = not (has_room m (cells_needed ask)) && is_full_clearing m c.kept c.pending
+may_have_collected m ask None = has_room m (cells_needed ask)
 
 -- a Rid that no resource has
 abbrev pub gives_new_rid : Machine → Answer → Bool
@@ -118,12 +118,13 @@ chooses_nothing c = is_none c.collected && is_empty c.fresh
 abbrev pub is_carried_out : Machine → Entry → Bool
 is_carried_out m e =
     is_none (refusal m e.ask)
-    && may_collect m e.ask e.choice.collected
+    && may_have_collected m e.ask e.choice.collected
     && are_fresh (with_collection m e.choice.collected).objects (cells_needed e.ask) e.choice.fresh
     && is_answer (with_collection m e.choice.collected) e.ask e.choice.collected e.answer
 
-abbrev pub is_refused : Machine → Entry → Bool
-is_refused m e = some_and (λ by. same_answer e.answer (Refused by)) (refusal m e.ask) && chooses_nothing e.choice
+abbrev pub is_rightly_refused : Machine → Entry → Bool
+is_rightly_refused m e = some_and (λ by. same_answer e.answer (Refused by)) (refusal m e.ask) && chooses_nothing
+    e.choice
 
 -- a collection that clears all leaves too few cells
 abbrev pub leaves_too_few : Machine → Ask → Collected → Bool
@@ -141,7 +142,7 @@ abbrev pub is_out_of_memory : Machine → Entry → Bool
 is_out_of_memory m e = not (is_end e.ask) && same_answer e.answer (Refused NoMemory) && chooses_nothing e.choice
 
 abbrev pub is_legal : Machine → Entry → Bool
-is_legal m e = is_carried_out m e || is_refused m e || is_heap_full m e || is_out_of_memory m e
+is_legal m e = is_carried_out m e || is_rightly_refused m e || is_heap_full m e || is_out_of_memory m e
 
 abbrev pub LegalityIsDecided : Type 0
 LegalityIsDecided = (m : Machine) (e : Entry) → IsWellFormed m → IsTrue (is_legal m e) ↔ IsLegal m e

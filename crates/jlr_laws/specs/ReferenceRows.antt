@@ -9,7 +9,7 @@ use Rattle.jlr_machine.specs.declared.ask.FullMode.TheVariants.{Policy, ClearAll
 use Rattle.jlr_machine.specs.declared.ask.Handed.TheVariants.{Queued as HandedQueued, Skipped}
 use Rattle.jlr_machine.specs.declared.ask.Answer.TheVariants.{Done, Handle, Truth, Handed as HandedAnswer}
 use Rattle.jlr_machine.specs.declared.entry.Entry.{Entry}
-use Rattle.jlr_laws.specs.Rows.{entry, making, collecting}
+use Rattle.jlr_laws.specs.Rows.{entry, making, collecting_entry}
 
 -- `new -; weak 1 0; drop 1; gc; deref 2` is answered `= 1; = 2; ok; ok; = 0`
 abbrev pub weak_row : List Entry
@@ -18,7 +18,7 @@ weak_row =
     ∷ making (New 0 []) (Handle 1) 0
     ∷ making (MakeRef 0 Weak 1 0) (Handle 2) 1
     ∷ entry (Drop 0 1) Done
-    ∷ collecting (Full 0 Policy) Done (1 ∷ []) []
+    ∷ collecting_entry (Full 0 Policy) Done (1 ∷ []) []
     ∷ entry (Deref 0 2) (Handle 0)
     ∷ entry (Leave 0) Done
     ∷ []
@@ -31,7 +31,7 @@ two_weak_row =
     ∷ making (MakeRef 0 Weak 1 0) (Handle 2) 1
     ∷ making (MakeRef 0 Weak 1 0) (Handle 3) 2
     ∷ entry (Drop 0 1) Done
-    ∷ collecting (Full 0 Policy) Done (1 ∷ 2 ∷ []) []
+    ∷ collecting_entry (Full 0 Policy) Done (1 ∷ 2 ∷ []) []
     ∷ entry (Deref 0 2) (Handle 0)
     ∷ entry (Deref 0 3) (Handle 0)
     ∷ entry (Leave 0) Done
@@ -45,7 +45,7 @@ queue_row =
     ∷ making (New 0 []) (Handle 2) 1
     ∷ making (MakeRef 0 Weak 2 1) (Handle 3) 2
     ∷ entry (Drop 0 2) Done
-    ∷ collecting (Full 0 Policy) Done (0 ∷ 2 ∷ []) (2 ∷ [])
+    ∷ collecting_entry (Full 0 Policy) Done (0 ∷ 2 ∷ []) (2 ∷ [])
     ∷ entry HandOver (HandedAnswer HandedQueued)
     ∷ entry (Enqueued 0 3) (Truth true)
     ∷ entry (Poll 0 1) (Handle 2)
@@ -65,7 +65,7 @@ self_reference_row =
     ∷ entry (Put 0 2 0 3) Done
     ∷ entry (Drop 0 3) Done
     ∷ entry (Drop 0 2) Done
-    ∷ collecting (Full 0 Policy) Done (0 ∷ []) []
+    ∷ collecting_entry (Full 0 Policy) Done (0 ∷ []) []
     ∷ entry (Poll 0 1) (Handle 0)
     ∷ entry (Leave 0) Done
     ∷ []
@@ -79,7 +79,7 @@ clear_row =
     ∷ making (MakeRef 0 Weak 2 1) (Handle 3) 2
     ∷ entry (Clear 0 3) Done
     ∷ entry (Drop 0 2) Done
-    ∷ collecting (Full 0 Policy) Done (0 ∷ 2 ∷ []) []
+    ∷ collecting_entry (Full 0 Policy) Done (0 ∷ 2 ∷ []) []
     ∷ entry (Poll 0 1) (Handle 0)
     ∷ entry (Enqueued 0 3) (Truth false)
     ∷ entry (Enqueue 0 3) (Truth true)
@@ -98,7 +98,7 @@ phantom_row =
     ∷ entry (Refers 0 2 1) (Truth true)
     ∷ entry (Refers 0 2 0) (Truth false)
     ∷ entry (Drop 0 1) Done
-    ∷ collecting (Full 0 Policy) Done (1 ∷ []) []
+    ∷ collecting_entry (Full 0 Policy) Done (1 ∷ []) []
     ∷ entry (Refers 0 2 0) (Truth true)
     ∷ entry (Leave 0) Done
     ∷ []
@@ -111,7 +111,7 @@ program_first_row =
     ∷ making (New 0 []) (Handle 2) 1
     ∷ making (MakeRef 0 Weak 2 1) (Handle 3) 2
     ∷ entry (Drop 0 2) Done
-    ∷ collecting (Full 0 Policy) Done (0 ∷ 2 ∷ []) (2 ∷ [])
+    ∷ collecting_entry (Full 0 Policy) Done (0 ∷ 2 ∷ []) (2 ∷ [])
     ∷ entry (Enqueue 0 3) (Truth true)
     ∷ entry (Poll 0 1) (Handle 2)
     ∷ entry HandOver (HandedAnswer Skipped)
@@ -130,12 +130,12 @@ soft_chain_row =
     ∷ making (MakeRef 0 Soft 2 0) (Handle 4) 3
     ∷ entry (Drop 0 1) Done
     ∷ entry (Drop 0 2) Done
-    ∷ collecting (Full 0 Policy) Done (0 ∷ 1 ∷ 2 ∷ 3 ∷ []) []
+    ∷ collecting_entry (Full 0 Policy) Done (0 ∷ 1 ∷ 2 ∷ 3 ∷ []) []
     ∷ entry (Deref 0 3) (Handle 1)
     ∷ entry (Deref 0 4) (Handle 2)
     ∷ entry (Drop 0 1) Done
     ∷ entry (Drop 0 2) Done
-    ∷ collecting (Full 0 ClearAll) Done (2 ∷ 3 ∷ []) []
+    ∷ collecting_entry (Full 0 ClearAll) Done (2 ∷ 3 ∷ []) []
     ∷ entry (Deref 0 3) (Handle 0)
     ∷ entry (Deref 0 4) (Handle 0)
     ∷ entry (Leave 0) Done
@@ -148,8 +148,8 @@ soft_age_row =
     ∷ making (New 0 []) (Handle 1) 0
     ∷ making (MakeRef 0 Soft 1 0) (Handle 2) 1
     ∷ entry (Drop 0 1) Done
-    ∷ collecting (Full 0 Policy) Done (0 ∷ 1 ∷ []) []
-    ∷ collecting (Full 0 Policy) Done (1 ∷ []) []
+    ∷ collecting_entry (Full 0 Policy) Done (0 ∷ 1 ∷ []) []
+    ∷ collecting_entry (Full 0 Policy) Done (1 ∷ []) []
     ∷ entry (Deref 0 2) (Handle 0)
     ∷ entry (Leave 0) Done
     ∷ []
@@ -161,10 +161,10 @@ soft_used_row =
     ∷ making (New 0 []) (Handle 1) 0
     ∷ making (MakeRef 0 Soft 1 0) (Handle 2) 1
     ∷ entry (Drop 0 1) Done
-    ∷ collecting (Full 0 Policy) Done (0 ∷ 1 ∷ []) []
+    ∷ collecting_entry (Full 0 Policy) Done (0 ∷ 1 ∷ []) []
     ∷ entry (Deref 0 2) (Handle 1)
     ∷ entry (Drop 0 1) Done
-    ∷ collecting (Full 0 Policy) Done (0 ∷ 1 ∷ []) []
+    ∷ collecting_entry (Full 0 Policy) Done (0 ∷ 1 ∷ []) []
     ∷ entry (Deref 0 2) (Handle 1)
     ∷ entry (Leave 0) Done
     ∷ []

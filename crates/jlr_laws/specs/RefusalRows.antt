@@ -16,7 +16,7 @@ use Rattle.jlr_machine.specs.declared.ask.CallOutcome.TheVariants.{Wrote as GotW
 use Rattle.jlr_machine.specs.declared.ask.Answer.TheVariants.{Done, Handle, Int as IntAnswer, Names as NamesAnswer}
 use Rattle.jlr_machine.specs.declared.ask.Answer.TheVariants.{Stat as StatAnswer, Prepared, Out, Refused}
 use Rattle.jlr_machine.specs.declared.entry.Entry.{Entry}
-use Rattle.jlr_laws.specs.Rows.{entry, making, preparing, collecting, collecting_for, stat}
+use Rattle.jlr_laws.specs.Rows.{entry, making, preparing, collecting_entry, collecting_for, stat}
 
 -- `get 9 0; dup 0; new ri; poll 1; get 1 2; get 1 1; setint 1 0 5; find x; queue; remove 2; weak 0 2; weak 1 1; setint
 -- 1 1 -9223372036854775808; int 1 1`
@@ -81,7 +81,7 @@ full_heap_row =
     ∷ making (New 0 []) (Handle 14) 13
     ∷ making (New 0 []) (Handle 15) 14
     ∷ making (New 0 []) (Handle 16) 15
-    ∷ collecting (New 0 []) (Refused HeapFull)
+    ∷ collecting_entry (New 0 []) (Refused HeapFull)
     (0 ∷ 1 ∷ 2 ∷ 3 ∷ 4 ∷ 5 ∷ 6 ∷ 7 ∷ 8 ∷ 9 ∷ 10 ∷ 11 ∷ 12 ∷ 13 ∷ 14 ∷ 15 ∷ []) []
     ∷ entry (Drop 0 1) Done
     ∷ collecting_for (New 0 []) (Handle 1) (1 ∷ 2 ∷ 3 ∷ 4 ∷ 5 ∷ 6 ∷ 7 ∷ 8 ∷ 9 ∷ 10 ∷ 11 ∷ 12 ∷ 13 ∷ 14 ∷ 15 ∷ []) []
@@ -140,7 +140,7 @@ names_row =
     ∷ entry (Bind 0 (98 ∷ []) 1) Done
     ∷ entry (Names 0) (NamesAnswer ((98 ∷ []) ∷ (97 ∷ []) ∷ []))
     ∷ entry (Drop 0 1) Done
-    ∷ collecting (Full 0 Policy) Done (0 ∷ []) []
+    ∷ collecting_entry (Full 0 Policy) Done (0 ∷ []) []
     ∷ entry (Find 0 (97 ∷ [])) (Handle 1)
     ∷ entry (Unbind 0 (98 ∷ [])) Done
     ∷ entry (Names 0) (NamesAnswer ((97 ∷ []) ∷ []))
@@ -148,16 +148,16 @@ names_row =
     ∷ []
 
 -- two letters for each number below 256
-abbrev pub name_of : ℕ → List ℕ
-name_of n = (97 + n / 16) ∷ (97 + n % 16) ∷ []
+abbrev pub two_letters : ℕ → List ℕ
+two_letters n = (97 + n / 16) ∷ (97 + n % 16) ∷ []
 
 abbrev pub names_bound : ℕ → ℕ → List Entry
 names_bound from zero = []
-names_bound from (suc n) = entry (Bind 0 (name_of from) 1) Done ∷ names_bound (suc from) n
+names_bound from (suc n) = entry (Bind 0 (two_letters from) 1) Done ∷ names_bound (suc from) n
 
 -- after 256 names a new one is refused, and an old one is not
 abbrev pub names_full_row : List Entry
 names_full_row =
     (entry (Join 0) Done ∷ making (New 0 []) (Handle 1) 0 ∷ [])
     ++ names_bound 0 256
-    ++ (entry (Bind 0 (122 ∷ []) 1) (Refused NamesFull) ∷ entry (Bind 0 (name_of 255) 1) Done ∷ [])
+    ++ (entry (Bind 0 (122 ∷ []) 1) (Refused NamesFull) ∷ entry (Bind 0 (two_letters 255) 1) Done ∷ [])

@@ -15,7 +15,7 @@ use Rattle.jlr_machine.specs.declared.ask.Answer.TheVariants.{Done, Handle, Trut
 use Rattle.jlr_machine.specs.declared.ask.Answer.TheVariants.{Handed as HandedAnswer, Refused}
 use Rattle.jlr_machine.specs.declared.entry.Entry.{Entry}
 use Rattle.jlr_machine.specs.Run.{empty}
-use Rattle.jlr_laws.specs.Rows.{entry, making, preparing, collecting}
+use Rattle.jlr_laws.specs.Rows.{entry, making, preparing, collecting_entry}
 
 -- after `new -; weak 1 0; drop 1`: a `gc` that clears and removes nothing
 abbrev pub weak_dropped : List Entry
@@ -23,7 +23,7 @@ weak_dropped = entry (Join 0) Done ∷ making (New 0 []) (Handle 1) 0 ∷ making
     (Drop 0 1) Done ∷ []
 
 abbrev pub gc_keeping_all : Entry
-gc_keeping_all = collecting (Full 0 Policy) Done (0 ∷ 1 ∷ []) []
+gc_keeping_all = collecting_entry (Full 0 Policy) Done (0 ∷ 1 ∷ []) []
 
 -- after `new -; weak 1 0; weak 1 0; drop 1; gc; deref 2`, which gave null: the second reference still gives the object
 abbrev pub first_weak_cleared : List Entry
@@ -33,7 +33,7 @@ first_weak_cleared =
     ∷ making (MakeRef 0 Weak 1 0) (Handle 2) 1
     ∷ making (MakeRef 0 Weak 1 0) (Handle 3) 2
     ∷ entry (Drop 0 1) Done
-    ∷ collecting (Full 0 Policy) Done (1 ∷ 2 ∷ []) []
+    ∷ collecting_entry (Full 0 Policy) Done (1 ∷ 2 ∷ []) []
     ∷ entry (Deref 0 2) (Handle 0)
     ∷ []
 
@@ -55,14 +55,14 @@ soft_chain_dropped =
     ∷ []
 
 abbrev pub held_soft_cleared : Entry
-held_soft_cleared = collecting (Full 0 Policy) Done (0 ∷ 2 ∷ 3 ∷ []) []
+held_soft_cleared = collecting_entry (Full 0 Policy) Done (0 ∷ 2 ∷ 3 ∷ []) []
 
 -- and one that keeps both, after which the reference to the second gives null
 abbrev pub held_soft_gives_null : Entry
 held_soft_gives_null = entry (Deref 0 4) (Handle 0)
 
 abbrev pub soft_chain_kept : List Entry
-soft_chain_kept = soft_chain_dropped ++ collecting (Full 0 Policy) Done (0 ∷ 1 ∷ 2 ∷ 3 ∷ []) [] ∷ []
+soft_chain_kept = soft_chain_dropped ++ collecting_entry (Full 0 Policy) Done (0 ∷ 1 ∷ 2 ∷ 3 ∷ []) [] ∷ []
 
 -- after `queue; new -; weak 2 1; clear 3; drop 2`: a `gc` puts the reference, which the program cleared, on the pending
 -- list
@@ -77,7 +77,7 @@ cleared_by_program =
     ∷ []
 
 abbrev pub cleared_is_pended : Entry
-cleared_is_pended = collecting (Full 0 Policy) Done (0 ∷ 2 ∷ []) (2 ∷ [])
+cleared_is_pended = collecting_entry (Full 0 Policy) Done (0 ∷ 2 ∷ []) (2 ∷ [])
 
 -- after `queue; new -; weak 2 1; drop 2; gc; enqueue 3`: the handler too appends the reference
 abbrev pub enqueued_by_program : List Entry
@@ -87,7 +87,7 @@ enqueued_by_program =
     ∷ making (New 0 []) (Handle 2) 1
     ∷ making (MakeRef 0 Weak 2 1) (Handle 3) 2
     ∷ entry (Drop 0 2) Done
-    ∷ collecting (Full 0 Policy) Done (0 ∷ 2 ∷ []) (2 ∷ [])
+    ∷ collecting_entry (Full 0 Policy) Done (0 ∷ 2 ∷ []) (2 ∷ [])
     ∷ entry (Enqueue 0 3) (Truth true)
     ∷ []
 
@@ -95,14 +95,14 @@ abbrev pub handler_appends_again : Entry
 handler_appends_again = entry HandOver (HandedAnswer HandedQueued)
 
 -- after `cleaner; new -; register 1 2 7; drop 2; gc` and the cleaner's take-up: the program takes the action up again
-abbrev pub taken_by_cleaner : List Entry
-taken_by_cleaner =
+abbrev pub entries_taken_by_cleaner : List Entry
+entries_taken_by_cleaner =
     entry (Join 0) Done
     ∷ making (MakeCleaner 0) (Handle 1) 0
     ∷ making (New 0 []) (Handle 2) 1
     ∷ making (Register 0 1 2 7) (Handle 3) 2
     ∷ entry (Drop 0 2) Done
-    ∷ collecting (Full 0 Policy) Done (0 ∷ 2 ∷ []) (2 ∷ [])
+    ∷ collecting_entry (Full 0 Policy) Done (0 ∷ 2 ∷ []) (2 ∷ [])
     ∷ entry HandOver (HandedAnswer HandedLined)
     ∷ entry TakeUp (Job 1 (Note 7))
     ∷ []
@@ -138,4 +138,4 @@ abbrev pub full_without_collection : Entry
 full_without_collection = entry (New 0 []) (Refused HeapFull)
 
 abbrev pub full_with_room : Entry
-full_with_room = collecting (New 0 []) (Refused HeapFull) (1 ∷ []) []
+full_with_room = collecting_entry (New 0 []) (Refused HeapFull) (1 ∷ []) []

@@ -18,7 +18,7 @@ ghost use Rattle.jlr_laws.specs.WrongEntries.{enqueued_by_program, first_weak_cl
 ghost use Rattle.jlr_laws.specs.WrongEntries.{full_without_collection, gc_keeping_all, handler_appends_again};
 ghost use Rattle.jlr_laws.specs.WrongEntries.{held_soft_cleared, held_soft_gives_null, one_dropped, rid_used_again};
 ghost use Rattle.jlr_laws.specs.WrongEntries.{second_weak_kept, soft_chain_dropped, soft_chain_kept, taken_again};
-ghost use Rattle.jlr_laws.specs.WrongEntries.{taken_by_cleaner, two_cells, weak_dropped};
+ghost use Rattle.jlr_laws.specs.WrongEntries.{entries_taken_by_cleaner, two_cells, weak_dropped};
 
 /// The worked rows on references, queues and soft references are runs from the empty machine.
 pub fn reference_rows_are_runs()
@@ -86,7 +86,7 @@ pub fn wrong_entries_are_not_legal()
     ensures kept_soft_gives_its_referent { ¬ (IsLegal (after_all start soft_chain_kept) held_soft_gives_null) }
     ensures cleared_by_program_is_not_pended { ¬ (IsLegal (after_all start cleared_by_program) cleared_is_pended) }
     ensures handler_does_not_append_again { ¬ (IsLegal (after_all start enqueued_by_program) handler_appends_again) }
-    ensures an_action_is_taken_up_once { ¬ (IsLegal (after_all start taken_by_cleaner) taken_again) }
+    ensures an_action_is_taken_up_once { ¬ (IsLegal (after_all start entries_taken_by_cleaner) taken_again) }
     ensures a_closed_guard_gives_nothing { ¬ (IsLegal (after_all start rid_used_again) closed_is_out) }
     ensures a_full_heap_needs_a_collection { ¬ (IsLegal (after_all two_cells one_dropped) full_without_collection) }
     ensures a_full_heap_has_no_room { ¬ (IsLegal (after_all two_cells one_dropped) full_with_room) }

@@ -14,14 +14,14 @@ pub record Seen (E : Type 0) : Type 0 where
   pub known : List E
 
 module _ {E : Type 0} where
-  abbrev pub whole : List E → ℕ → Whole E
-  whole all dealt = record { all = all; dealt = dealt }
+  abbrev pub whole_history : List E → ℕ → Whole E
+  whole_history all dealt = record { all = all; dealt = dealt }
 
   abbrev pub seen : ℕ → List E → Seen E
   seen seat known = record { seat = seat; known = known }
 
   abbrev pub whole_in : View E → Whole E
-  whole_in v = whole v.all v.dealt
+  whole_in v = whole_history v.all v.dealt
 
   abbrev pub seen_in : List (View E) → Seen E
   seen_in [] = seen 0 []

@@ -3,7 +3,7 @@ ghost use Rattle.std.specs.Prelude.{◌≡◌, ◌+◌, ◌<◌, ◌^◌, [], �
 ghost use Rattle.atomic_table.specs.Seated.{TableId};
 ghost use Rattle.jlr_log.specs.Views.{own, knower};
 ghost use Rattle.jlr_log.specs.Rule.{Knows};
-ghost use Rattle.jlr_log.specs.Seeing.{AllOf, seen, whole};
+ghost use Rattle.jlr_log.specs.Seeing.{AllOf, seen, whole_history};
 
 use crate::rule::{Add, Deal, Meet, Naming, OneLog, Owned, Part, Telling, View};
 use atomic_table::{Badge, Seat, Table};
@@ -89,7 +89,7 @@ impl<E: Owned> Blank<E> {
     /// The history under a name.
     pub fn open<B: Naming>(self) -> (Log<E, B>, Keeper<E, B>)
         requires { self ≡ B.table }
-        ensures { result.1 ≡ whole [] 0 }
+        ensures { result.1 ≡ whole_history [] 0 }
     {
         let Blank { table, seat } = self;
         (
@@ -109,7 +109,7 @@ impl<E: Owned, B: Naming> Log<E, B> {
     /// The next seat, which has seen all.
     pub fn deal(&self, keeper: &mut Keeper<E, B>) -> Pass<E, B>
         ensures pass { result ≡ seen keeper.old.dealt keeper.old.all }
-        ensures keeper { keeper.new ≡ whole keeper.old.all (keeper.old.dealt + 1) }
+        ensures keeper { keeper.new ≡ whole_history keeper.old.all (keeper.old.dealt + 1) }
     {
         let Keeper { seat, .. } = keeper;
         let token = self.table.shared.split_seat::<Deal>(seat);
@@ -124,7 +124,7 @@ impl<E: Owned, B: Naming> Log<E, B> {
     pub fn tell<J: Telling<E>>(&self, keeper: &mut Keeper<E, B>, pass: &mut Pass<E, B>)
         requires { AllOf E.owner pass.old.seat J.told }
         ensures knew { Knows E.owner pass.old.seat pass.old.known keeper.old.all }
-        ensures keeper { keeper.new ≡ whole (keeper.old.all ++ J.told) keeper.old.dealt }
+        ensures keeper { keeper.new ≡ whole_history (keeper.old.all ++ J.told) keeper.old.dealt }
         ensures pass { pass.new ≡ seen pass.old.seat (keeper.old.all ++ J.told) }
     {
         let Keeper { seat, .. } = keeper;

@@ -5,17 +5,17 @@ use Rattle.jlr_machine.specs.declared.ask.Ask.TheVariants.{CheckIn}
 use Rattle.jlr_machine.specs.declared.ask.CallOutcome.{CallOutcome}
 use Rattle.jlr_machine.specs.declared.ask.CallOutcome.TheVariants.{Data}
 
-abbrev pub is_data : CallOutcome → Bool
-is_data (Data bytes) = true
-is_data outcome = false
+abbrev pub is_data_outcome : CallOutcome → Bool
+is_data_outcome (Data bytes) = true
+is_data_outcome outcome = false
 
 abbrev pub tells_data : Option Ask → Bool
-tells_data (Some (CheckIn k outcome)) = is_data outcome
+tells_data (Some (CheckIn k outcome)) = is_data_outcome outcome
 tells_data asked = false
 
 -- there is room where it is needed
 abbrev pub HasRoom : {X : Type 0} → Option X → CallOutcome → Type 0
-HasRoom room outcome = cond (is_data outcome) (is_some room) true ≡ true
+HasRoom room outcome = cond (is_data_outcome outcome) (is_some room) true ≡ true
 
 -- room comes with an ask that needs it
 abbrev pub Brings : {X : Type 0} → Option X → Option Ask → Type 0

@@ -13,7 +13,7 @@ use Rattle.jlr_laws.proofs.Frames.{no_some, place_within}
 use Rattle.jlr_laws.proofs.Sets.{in_front, in_rest, in_cons}
 use Rattle.jlr_laws.specs.Laws.{followed, IsPathFollowed}
 use Rattle.jlr_marks.specs.declared.part.Part.{Part}
-use Rattle.jlr_marks.specs.Marking.{Marking, IsMarked, Shaded, next_of, place, unmarked, upcoming}
+use Rattle.jlr_marks.specs.Marking.{Marking, IsMarked, Shaded, grey_next, place, unmarked, upcoming}
 use Rattle.jlr_marks.proofs.Shading.{shaded_same, shaded_then}
 use Rattle.jlr_barrier.specs.Parts.{next_at, part_at}
 use Rattle.jlr_barrier.specs.Scans.{Scanned, ScannedTo}
@@ -239,7 +239,7 @@ follows_then T U slot more old mid new f s = record {
 }
 
 -- where none comes next, none is grey
-none_next : (part : Option Part) (grey : List ℕ) → next_of part grey ≡ None → grey ≡ []
+none_next : (part : Option Part) (grey : List ℕ) → grey_next part grey ≡ None → grey ≡ []
 none_next (Some p) grey e = no_some p.slot (sym e)
 none_next None [] e = refl
 none_next None (x ∷ grey) e =

@@ -9,7 +9,7 @@ use Rattle.jlr_laws.specs.Laws.{followed}
 use Rattle.jlr_laws.proofs.Frames.{no_some, place_within, some_same}
 use Rattle.jlr_laws.proofs.Sets.{in_front, in_rest, in_cons}
 use Rattle.jlr_marks.specs.declared.part.Part.{Part}
-use Rattle.jlr_marks.specs.Marking.{Marking, IsMarked, is_marked, marked, next_of, place, place_in, upcoming}
+use Rattle.jlr_marks.specs.Marking.{Marking, IsMarked, is_marked, marked, grey_next, place, place_in, upcoming}
 use Rattle.jlr_barrier.specs.Parts.{IsBegun, next_at, ticks_at}
 use Rattle.jlr_marker.specs.Following.{FollowsSlot, IsTicked, grey_still, part_still}
 use Rattle.jlr_marker.specs.Spending.{by_colour, elements_at, so_far, spent_at}
@@ -36,7 +36,8 @@ other_place : (more : Option ℕ) (slot z : ℕ) → ¬ (z ≡ slot) → place_i
 other_place None slot z other = refl
 other_place (Some p) slot z other = apart slot z p other
 
-pub other_upcoming : (part : Option Part) (grey : List ℕ) (slot z : ℕ) → next_of part grey ≡ Some slot → ¬ (z ≡ slot) → place_in part z ≡ 0
+pub other_upcoming : (part : Option Part) (grey : List ℕ) (slot z : ℕ) → grey_next part grey ≡ Some slot → ¬ (z ≡ slot) → place_in part z
+    ≡ 0
 other_upcoming None grey slot z e other = refl
 other_upcoming (Some p) grey slot z e other = apart p.slot z p.place (λ same. other (same ∙ some_same p.slot slot e))
 

@@ -9,7 +9,7 @@ use Rattle.jlr_laws.proofs.Sets.{nothing}
 use Rattle.jlr_marks.specs.Marking.{Marking, IsMarked, Shaded, is_marked, place, place_in, unmarked, upcoming}
 use Rattle.jlr_barrier.specs.Parts.{IsBegun, next_at, ticks_at}
 use Rattle.jlr_marker.specs.Following.{IsFollowed, Ticks}
-use Rattle.jlr_marker.specs.Spending.{elements_at, so_far, spent, spent_at, ticks_for}
+use Rattle.jlr_marker.specs.Spending.{elements_at, so_far, ticks_spent, spent_at, ticks_for}
 use Rattle.jlr_marker.specs.Marks.{Blackening, IsPassedIn}
 use Rattle.jlr_marker.proofs.Elements.{array_edge, array_no_soft}
 use Rattle.jlr_marker.proofs.Following.{along, follows_base, followed_gives, none_in_unmarked}
@@ -38,7 +38,7 @@ module _ (heap : Heap) (B : List ℕ) (n : ℕ) (first : Marking) (s : Shaded (�
       (λ on grey. colour_grey first x (place first x / 64) (ticks_at heap x) on grey ∙ ap (λ p. p / 64) (no_place x))
       (λ on dark. absurd (both_ways (first.grey ∋ x) dark (at_first x on).1))
 
-  pub none_spent : spent heap first ≡ 0
+  pub none_spent : ticks_spent heap first ≡ 0
   none_spent = total_nothing (spent_at heap first) (length heap) none_spent_at
 
   pub none_spent_within : (x : ℕ) → spent_at heap first x ≤ 64
@@ -120,7 +120,7 @@ module _ (keeps : ℕ → Bool) (heap : Heap) (B : List ℕ) (n : ℕ) where
       each = one_within keeps heap i.ticks i.first cur new slot more i.blackening i.on f refl up top inside begun few i.each;
     }
 
-    pub marking_spends : spent heap new ≡ spent heap cur + 1
+    pub marking_spends : ticks_spent heap new ≡ ticks_spent heap cur + 1
     marking_spends =
         total_one (spent_at heap cur) (spent_at heap new) (length heap) slot inside
         (same_spent keeps heap i.ticks i.first cur new slot more i.blackening i.on f refl up top inside begun)
@@ -129,7 +129,7 @@ module _ (keeps : ℕ → Bool) (heap : Heap) (B : List ℕ) (n : ℕ) where
     pub slot_is_grey : slot ∈ cur.grey
     slot_is_grey = slot_grey keeps heap i.ticks i.first cur new slot more i.blackening i.on f refl up top inside begun
 
-  pub marking_within : (m : Marking) → IsMarking keeps heap B n m → spent heap m ≤ 64 * length heap
+  pub marking_within : (m : Marking) → IsMarking keeps heap B n m → ticks_spent heap m ≤ 64 * length heap
   marking_within m i = total_bounded (spent_at heap m) 64 (length heap) i.each
 
   -- with no grey slot left, exactly what is followed is marked
@@ -141,7 +141,7 @@ module _ (keeps : ℕ → Bool) (heap : Heap) (B : List ℕ) (n : ℕ) where
 
 -- while a slot is grey, fewer ticks were spent than all objects take
 pub spent_below : (heap : Heap) (m : Marking) (slot : ℕ) → upcoming m ≡ Some slot → IsMarked m slot → slot ∈ m.grey → slot < length heap
-    → IsBegun heap (place m slot) slot → spent heap m < ticks_for heap
+    → IsBegun heap (place m slot) slot → ticks_spent heap m < ticks_for heap
 spent_below heap m slot up on grey inside begun =
     let here = colour_grey m slot (place m slot / 64) (ticks_at heap slot) on grey in
     let less : spent_at heap m slot < ticks_at heap slot = omega (arith, here, begun.1, begun.2) in
@@ -159,7 +159,7 @@ spent_below heap m slot up on grey inside begun =
     less
 
 -- with no grey slot left, no more ticks were spent than all objects take
-pub spent_within : (heap : Heap) (m : Marking) → m.grey ≡ [] → spent heap m ≤ ticks_for heap
+pub spent_within : (heap : Heap) (m : Marking) → m.grey ≡ [] → ticks_spent heap m ≤ ticks_for heap
 spent_within heap m none =
     total_within (spent_at heap m) (ticks_at heap) (length heap)
     (λ x. by_cases m x (λ white. omega (arith, colour_white m x (place m x / 64) (ticks_at heap x) white))

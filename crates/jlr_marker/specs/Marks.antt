@@ -7,7 +7,7 @@ use Rattle.jlr_laws.specs.Laws.{followed, IsPathFollowed}
 use Rattle.jlr_marks.specs.declared.part.Part.{Part}
 use Rattle.jlr_marks.specs.Marking.{Marking, IsMarked, marked}
 use Rattle.jlr_barrier.specs.Parts.{ticks_at}
-use Rattle.jlr_marker.specs.Spending.{elements_at, so_far, spent}
+use Rattle.jlr_marker.specs.Spending.{elements_at, so_far, ticks_spent}
 
 -- the cell is black, and was not: it was grey, or white
 abbrev pub IsBlackened : Marking → Marking → ℕ → Type 0
@@ -30,7 +30,7 @@ IsPassed keeps heap old new x y = IsPassedIn (elements_at heap x) keeps heap old
 -- So many ticks were spent, and at most so many cells were blackened. What the edges that were followed lead to is
 -- marked: strong edges, and the referent of a soft reference that the policy keeps. Nothing else was marked
 pub record Blackening (keeps : ℕ → Bool) (heap : Heap) (ticks : ℕ) (old new : Marking) : Type 0 where
-  pub spends : spent heap new ≡ spent heap old + ticks
+  pub spends : ticks_spent heap new ≡ ticks_spent heap old + ticks
   pub black : (n : ℕ) × (n ≤ ticks) × Blackens n old new
   pub kept : (x : ℕ) → IsMarked old x → IsMarked new x
   -- a cell that was black is not grey

@@ -21,8 +21,8 @@ total f zero = 0
 total f (suc n) = total f n + f n
 
 -- how many ticks were spent, and how many all objects take
-abbrev pub spent : Heap → Marking → ℕ
-spent heap m = total (spent_at heap m) (length heap)
+abbrev pub ticks_spent : Heap → Marking → ℕ
+ticks_spent heap m = total (spent_at heap m) (length heap)
 
 abbrev pub ticks_for : Heap → ℕ
 ticks_for heap = total (ticks_at heap) (length heap)

@@ -6,7 +6,8 @@ use Rattle.jlr_machine.specs.declared.entry.Entry.{Entry}
 use Rattle.jlr_machine.specs.Refusals.{refusal, cells_needed}
 use Rattle.jlr_machine.specs.Run.{IsLegal, with_collection}
 use Rattle.jlr_machine.specs.WellFormed.{IsWellFormed}
-use Rattle.jlr_laws.specs.Deciding.{is_carried_out, is_refused, is_heap_full, is_out_of_memory, is_legal, may_collect, are_fresh, is_answer}
+use Rattle.jlr_laws.specs.Deciding.{is_carried_out, is_rightly_refused, is_heap_full, is_out_of_memory, is_legal, may_have_collected}
+use Rattle.jlr_laws.specs.Deciding.{are_fresh, is_answer}
 use Rattle.jlr_laws.proofs.Legality.{legality_is_decided}
 use Rattle.jlr_plain.specs.Deciding.{fits_after, declines, HasAllowedCollection}
 
@@ -21,13 +22,13 @@ and_grouped false b c d = refl
 
 -- carried out or declined
 pub legal_parts : (m : Machine) (e : Entry) → (is_carried_out m e || declines m e) ≡ is_legal m e
-legal_parts m e = or_grouped (is_carried_out m e) (is_refused m e) (is_heap_full m e) (is_out_of_memory m e)
+legal_parts m e = or_grouped (is_carried_out m e) (is_rightly_refused m e) (is_heap_full m e) (is_out_of_memory m e)
 
-pub carried_parts : (m : Machine) (e : Entry) → ((is_none (refusal m e.ask) && may_collect m e.ask e.choice.collected)
+pub carried_parts : (m : Machine) (e : Entry) → ((is_none (refusal m e.ask) && may_have_collected m e.ask e.choice.collected)
     && fits_after e (with_collection m e.choice.collected)) ≡ is_carried_out m e
 carried_parts m e =
     let n = with_collection m e.choice.collected in
-    and_grouped (is_none (refusal m e.ask)) (may_collect m e.ask e.choice.collected)
+    and_grouped (is_none (refusal m e.ask)) (may_have_collected m e.ask e.choice.collected)
     (are_fresh n.objects (cells_needed e.ask) e.choice.fresh) (is_answer n e.ask e.choice.collected e.answer)
 
 or_last : (a b : Bool) → b ≡ true → (a || b) ≡ true
@@ -43,7 +44,8 @@ neither_is_legal m e w c d legal =
     both_ways false refl
     (sym (ap (λ a. a || declines m e) c ∙ d) ∙ legal_parts m e ∙ (legality_is_decided m e w).1 legal)
 
-pub not_allowed : (m : Machine) (e : Entry) → IsWellFormed m → (is_none (refusal m e.ask) && may_collect m e.ask e.choice.collected) ≡ false
+pub not_allowed : (m : Machine) (e : Entry) → IsWellFormed m → (is_none (refusal m e.ask) && may_have_collected m e.ask e.choice.collected)
+    ≡ false
     → declines m e ≡ false → ¬ (IsLegal m e)
 not_allowed m e w a d =
     neither_is_legal m e w (sym (carried_parts m e) ∙ ap (λ b. b && fits_after e (with_collection m e.choice.collected)) a) d

@@ -4,7 +4,7 @@ ghost use Rattle.jlr_machine.specs.declared.ask.Ask.TheVariants.{Full, Collect};
 ghost use Rattle.jlr_machine.specs.Edges.{roots};
 ghost use Rattle.jlr_machine.specs.Run.{has_room};
 ghost use Rattle.jlr_laws.specs.Laws.{IsWithinHeap};
-ghost use Rattle.jlr_laws.specs.Deciding.{is_full_clearing, may_collect};
+ghost use Rattle.jlr_laws.specs.Deciding.{is_full_clearing, may_have_collected};
 
 use crate::room::room_for;
 use jlr_machine::ask::{Ask, FullMode};
@@ -24,7 +24,7 @@ fn full_allowed(
 ) -> Result<bool, AllocError>
     requires cells { length machine.now.objects ≤ 2 ^ 32 }
     requires within { IsWithinHeap machine.now.objects (roots machine.now) }
-    ensures { IfOk result (λ b. b ≡ may_collect machine.now (Full mutator mode) (Some c.now)) }
+    ensures { IfOk result (λ b. b ≡ may_have_collected machine.now (Full mutator mode) (Some c.now)) }
 {
     match mode {
         FullMode::Policy => full_tested(alloc, machine, c),
@@ -34,7 +34,7 @@ fn full_allowed(
 
 fn background_allowed(alloc: Global, machine: &Machine, c: &Collected) -> Result<bool, AllocError>
     requires { length machine.now.objects ≤ 2 ^ 32 }
-    ensures { IfOk result (λ b. b ≡ may_collect machine.now Collect (Some c.now)) }
+    ensures { IfOk result (λ b. b ≡ may_have_collected machine.now Collect (Some c.now)) }
 {
     if !machine.cycle_open {
         return Ok(false);
@@ -64,7 +64,7 @@ pub fn clears_for_room(
 fn may_do(alloc: Global, machine: &Machine, ask: &Ask, c: &Collected) -> Result<bool, AllocError>
     requires cells { length machine.now.objects ≤ 2 ^ 32 }
     requires within { IsWithinHeap machine.now.objects (roots machine.now) }
-    ensures { IfOk result (λ b. b ≡ may_collect machine.now ask.now (Some c.now)) }
+    ensures { IfOk result (λ b. b ≡ may_have_collected machine.now ask.now (Some c.now)) }
 {
     match ask {
         Ask::Full { mutator, mode } => full_allowed(alloc, machine, *mutator, *mode, c),
@@ -74,7 +74,7 @@ fn may_do(alloc: Global, machine: &Machine, ask: &Ask, c: &Collected) -> Result<
 }
 
 fn may_do_without(machine: &Machine, ask: &Ask) -> bool
-    ensures { result ≡ may_collect machine.now ask.now None }
+    ensures { result ≡ may_have_collected machine.now ask.now None }
 {
     match ask {
         Ask::Full { .. } => false,
@@ -92,7 +92,7 @@ pub fn may_collect_plain(
 ) -> Result<bool, AllocError>
     requires cells { length machine.now.objects ≤ 2 ^ 32 }
     requires within { IsWithinHeap machine.now.objects (roots machine.now) }
-    ensures { IfOk result (λ b. b ≡ may_collect machine.now ask.now choice.now.collected) }
+    ensures { IfOk result (λ b. b ≡ may_have_collected machine.now ask.now choice.now.collected) }
 {
     match choice.collected() {
         Some(c) => may_do(alloc, machine, ask, c),

@@ -10,8 +10,9 @@ ghost use Rattle.jlr_machine.specs.Edges.{roots};
 ghost use Rattle.jlr_machine.specs.Run.{IsLegal, with_collection};
 ghost use Rattle.jlr_machine.specs.WellFormed.{IsWellFormed};
 ghost use Rattle.jlr_laws.specs.Laws.{IsWithinHeap};
-ghost use Rattle.jlr_laws.specs.Deciding.{gives_new_rid, is_answer, chooses_nothing, is_carried_out, is_refused};
-ghost use Rattle.jlr_laws.specs.Deciding.{leaves_too_few, is_heap_full, is_empty, may_collect, are_fresh};
+ghost use Rattle.jlr_laws.specs.Deciding.{gives_new_rid, is_answer, chooses_nothing, is_carried_out};
+ghost use Rattle.jlr_laws.specs.Deciding.{is_rightly_refused};
+ghost use Rattle.jlr_laws.specs.Deciding.{leaves_too_few, is_heap_full, is_empty, may_have_collected, are_fresh};
 ghost use Rattle.jlr_plain.specs.Deciding.{declines, fits_after};
 
 use crate::collecting::{clears_for_room, may_collect_plain};
@@ -70,7 +71,7 @@ fn chooses_none(choice: &Chosen) -> bool
 }
 
 fn is_refused_plain(machine: &Machine, entry: &Entry) -> bool
-    ensures { result ≡ is_refused machine.now entry.now }
+    ensures { result ≡ is_rightly_refused machine.now entry.now }
 {
     match refusal_plain(machine, &entry.ask) {
         Some(by) => is_refused_by(&entry.answer, by) && chooses_none(&entry.choice),
@@ -96,7 +97,7 @@ pub(crate) fn may_carry_out(
     requires cells { length machine.now.objects ≤ 2 ^ 32 }
     requires within { IsWithinHeap machine.now.objects (roots machine.now) }
     ensures { IfOk result (λ b. b ≡ (is_none (refusal machine.now entry.now.ask)
-        && may_collect machine.now entry.now.ask entry.now.choice.collected)) }
+        && may_have_collected machine.now entry.now.ask entry.now.choice.collected)) }
 {
     if refusal_plain(machine, &entry.ask).is_some() {
         return Ok(false);

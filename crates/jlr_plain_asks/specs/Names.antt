@@ -2,5 +2,5 @@
 use Rattle.std.specs.Prelude.{ℕ, List, map}
 use Rattle.jlr_machine.specs.declared.machine.Binding.{Binding}
 
-abbrev pub names_of : List Binding → List (List ℕ)
-names_of names = map (λ b. b.name) names
+abbrev pub bound_names : List Binding → List (List ℕ)
+bound_names names = map (λ b. b.name) names

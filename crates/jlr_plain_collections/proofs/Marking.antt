@@ -10,7 +10,7 @@ use Rattle.jlr_machine.specs.Edges.{Chain, edges, edges_from}
 use Rattle.jlr_machine.specs.Reachable.{IsReached}
 use Rattle.jlr_machine.specs.ReachSet.{reach_set}
 use Rattle.jlr_laws.specs.Laws.{IsWithinHeap, only}
-use Rattle.jlr_plain_collections.specs.Marks.{is_marked, HasMark, marked, Greyed}
+use Rattle.jlr_plain_collections.specs.Marks.{has_mark, HasMark, marked_count, Greyed}
 use Rattle.jlr_laws.proofs.Sets.{nothing, in_front, in_rest, in_cons}
 use Rattle.jlr_plain_collections.proofs.Slow.{same_bools}
 use Rattle.jlr_laws.proofs.Clearing.{edge_gives, edge_from, in_append, in_left, in_right}
@@ -25,7 +25,7 @@ set_same [] n h = refl
 set_same (b ∷ l) zero h = refl
 set_same (b ∷ l) (suc n) h = ap (λ k. b ∷ k) (set_same l n (omega (arith, h)))
 
-pub unmarked_at : (n s : ℕ) → is_marked (replicate n false) s ≡ false
+pub unmarked_at : (n s : ℕ) → has_mark (replicate n false) s ≡ false
 unmarked_at zero s = refl
 unmarked_at (suc n) zero = refl
 unmarked_at (suc n) (suc s) = unmarked_at n s
@@ -69,11 +69,11 @@ last_or s x rest m = elim (in_append s rest (x ∷ []) m) [
 
 -- ---- One slot
 
-pub was_unmarked : (old : List Bool) (x : ℕ) (r : Bool) → r ≡ not (is_marked old x) → r ≡ true → is_marked old x ≡ false
-was_unmarked old x r e t = not-true (is_marked old x) (sym e ∙ t)
+pub was_unmarked : (old : List Bool) (x : ℕ) (r : Bool) → r ≡ not (has_mark old x) → r ≡ true → has_mark old x ≡ false
+was_unmarked old x r e t = not-true (has_mark old x) (sym e ∙ t)
 
-pub was_marked : (old : List Bool) (x : ℕ) (r : Bool) → r ≡ not (is_marked old x) → r ≡ false → is_marked old x ≡ true
-was_marked old x r e t = not_false (is_marked old x) (sym e ∙ t)
+pub was_marked : (old : List Bool) (x : ℕ) (r : Bool) → r ≡ not (has_mark old x) → r ≡ false → has_mark old x ≡ true
+was_marked old x r e t = not_false (has_mark old x) (sym e ∙ t)
   where
     not_false : (b : Bool) → not b ≡ false → b ≡ true
     not_false true h = refl
@@ -175,14 +175,14 @@ marking_begins chain heap B n marks todo e m =
     record {
       long = m.long ∙ length-replicate n false ∙ e;
       sound = λ s k. elim (m.only s k) [
-        | inl a ↦ absurd (both_ways (is_marked (replicate n false) s) (unmarked_at n s) a)
+        | inl a ↦ absurd (both_ways (has_mark (replicate n false) s) (unmarked_at n s) a)
         | inr t ↦
             at_base chain heap B s t
       ];
       base = λ s b. m.added s b;
       waiting = λ s b. elim (m.listed s b) [ inl a ↦ nothing s a | inr t ↦ t ];
       closed = λ x s k f.
-          elim (m.fresh x k) [ inl a ↦ absurd (both_ways (is_marked (replicate n false) x) (unmarked_at n x) a) | inr t ↦ inl t ];
+          elim (m.fresh x k) [ inl a ↦ absurd (both_ways (has_mark (replicate n false) x) (unmarked_at n x) a) | inr t ↦ inl t ];
     }
 
 pub marking_goes_on : (chain : Chain) (heap : Heap) (B : List ℕ) (x : ℕ) (old : List Bool) (todo rest : List ℕ) (new : List Bool)
@@ -214,7 +214,7 @@ marking_goes_on chain heap B x old todo rest new after t w g =
     }
 
 pub fewer_left : (T : ℕ → Type 0) (n x : ℕ) (old : List Bool) (todo rest : List ℕ) (new : List Bool) (after : List ℕ) → length old ≡ n
-    → todo ≡ rest ++ x ∷ [] → Greyed T old rest new after → (n - marked new) + length after < (n - marked old) + length todo
+    → todo ≡ rest ++ x ∷ [] → Greyed T old rest new after → (n - marked_count new) + length after < (n - marked_count old) + length todo
 fewer_left T n x old todo rest new after long t g =
     let m = count_by-le-length (λ b. b) new in
     let l = g.long in
@@ -223,11 +223,11 @@ fewer_left T n x old todo rest new after long t g =
     omega (arith, m, l, c, k, long)
 
 pub marking_ends : (chain : Chain) (heap : Heap) (kept B : List ℕ) (marks : List Bool) (todo : List ℕ) → todo ≡ [] → IsWithinHeap heap B
-    → IsMarking chain (only kept heap) B marks todo → (s : ℕ) → is_marked marks s ≡ (reach_set chain (only kept heap) B ∋ s)
+    → IsMarking chain (only kept heap) B marks todo → (s : ℕ) → has_mark marks s ≡ (reach_set chain (only kept heap) B ∋ s)
 marking_ends chain heap kept B marks todo none w k s =
     let d = Decides-inside chain heap kept B w s in
     let closed : (x y : ℕ) → HasMark marks x → y ∈ edges_from chain (only kept heap) x → HasMark marks y =
     λ x y m e. elim (k.closed x y m e) [ inl t ↦ nothing x (subst (λ l. x ∈ l) none t) | inr b ↦ b ] in
-    same_bools (is_marked marks s) (reach_set chain (only kept heap) B ∋ s) (λ m. d.1 (k.sound s m))
+    same_bools (has_mark marks s) (reach_set chain (only kept heap) B ∋ s) (λ m. d.1 (k.sound s m))
     (λ m. carried chain (only kept heap) B (HasMark marks) (λ x y h e. closed x y h (edge_from chain (only kept heap) x y e)) k.base s
     (d.0 m))

@@ -10,7 +10,7 @@ use Rattle.std.proofs.lemmas.List.Elements.{filter-append}
 use Rattle.jlr_machine.specs.Run.{seen_with}
 use Rattle.jlr_laws.specs.Laws.{places_kept, only}
 use Rattle.jlr_laws.proofs.Sets.{up_to_in}
-use Rattle.jlr_plain_collections.specs.Marks.{is_marked}
+use Rattle.jlr_plain_collections.specs.Marks.{has_mark}
 
 -- ---- All slots
 
@@ -50,30 +50,30 @@ slot_filtered p i now new n a =
     ∙ sym (ap {A = List ℕ} {B = List ℕ} (filter p) (slots_more i) ∙ filter-append p (up_to 0 i) (i ∷ []))
 
 -- marks that are what is reached
-pub seen_by_marks : (seen reach : List ℕ) (marks : List Bool) (n : ℕ) → ((s : ℕ) → is_marked marks s ≡ (reach ∋ s))
-    → filter (λ s. (seen ∋ s) || is_marked marks s) (up_to 0 n) ≡ seen_with seen reach n
+pub seen_by_marks : (seen reach : List ℕ) (marks : List Bool) (n : ℕ) → ((s : ℕ) → has_mark marks s ≡ (reach ∋ s))
+    → filter (λ s. (seen ∋ s) || has_mark marks s) (up_to 0 n) ≡ seen_with seen reach n
 seen_by_marks seen reach marks n h =
-    filter_same (λ s. (seen ∋ s) || is_marked marks s) (λ s. (seen ∋ s) || (reach ∋ s)) (up_to 0 n) (λ s. ap (λ b. (seen ∋ s) || b) (h s))
+    filter_same (λ s. (seen ∋ s) || has_mark marks s) (λ s. (seen ∋ s) || (reach ∋ s)) (up_to 0 n) (λ s. ap (λ b. (seen ∋ s) || b) (h s))
 
 -- what was marked among all slots is what is reached
 pub roots_marked : (heap : Heap) (B base kept : List ℕ) (marks passed : List Bool)
     → base ≡ B → kept ≡ up_to 0 (length heap) → passed ≡ marks
-    → ((s : ℕ) → is_marked marks s ≡ (reach_set UpToSoft (only kept heap) base ∋ s))
-    → (s : ℕ) → is_marked passed s ≡ (reach_set UpToSoft heap B ∋ s)
+    → ((s : ℕ) → has_mark marks s ≡ (reach_set UpToSoft (only kept heap) base ∋ s))
+    → (s : ℕ) → has_mark passed s ≡ (reach_set UpToSoft heap B ∋ s)
 roots_marked heap B base kept marks passed b k p h s =
-    ap {A = List Bool} {B = Bool} (λ x. is_marked x s) p ∙ h s
+    ap {A = List Bool} {B = Bool} (λ x. has_mark x s) p ∙ h s
     ∙ ap {A = List ℕ} {B = Bool} (λ x. reach_set UpToSoft (only x heap) base ∋ s) k
     ∙ ap {A = Heap} {B = Bool} (λ x. reach_set UpToSoft x base ∋ s) (only_all heap)
     ∙ ap {A = List ℕ} {B = Bool} (λ x. reach_set UpToSoft heap x ∋ s) b
 
 pub seen_found : (seen reach found : List ℕ) (marks passed : List Bool) (n m : ℕ) (out : List ℕ)
     → found ≡ seen → passed ≡ marks → n ≡ m
-    → ((s : ℕ) → is_marked marks s ≡ (reach ∋ s))
-    → out ≡ filter (λ s. (found ∋ s) || is_marked passed s) (up_to 0 n)
+    → ((s : ℕ) → has_mark marks s ≡ (reach ∋ s))
+    → out ≡ filter (λ s. (found ∋ s) || has_mark passed s) (up_to 0 n)
     → out ≡ seen_with seen reach m
 seen_found seen reach found marks passed n m out f p l h a =
     a
-    ∙ ap {A = List ℕ} {B = List ℕ} (λ x. filter (λ s. (x ∋ s) || is_marked passed s) (up_to 0 n)) f
-    ∙ ap {A = List Bool} {B = List ℕ} (λ x. filter (λ s. (seen ∋ s) || is_marked x s) (up_to 0 n)) p
-    ∙ ap {A = ℕ} {B = List ℕ} (λ x. filter (λ s. (seen ∋ s) || is_marked marks s) (up_to 0 x)) l
+    ∙ ap {A = List ℕ} {B = List ℕ} (λ x. filter (λ s. (x ∋ s) || has_mark passed s) (up_to 0 n)) f
+    ∙ ap {A = List Bool} {B = List ℕ} (λ x. filter (λ s. (seen ∋ s) || has_mark x s) (up_to 0 n)) p
+    ∙ ap {A = ℕ} {B = List ℕ} (λ x. filter (λ s. (seen ∋ s) || has_mark marks s) (up_to 0 x)) l
     ∙ seen_by_marks seen reach marks m h

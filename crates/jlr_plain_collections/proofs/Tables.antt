@@ -4,13 +4,13 @@ use Rattle.std.proofs.Common.{get_or, set, replicate, refl, sym, ◌∙◌, ap, 
 use Rattle.std.proofs.lemmas.Bool.{cases_eq}
 use Rattle.std.proofs.lemmas.List.{get_or-set_same, get_or-set_other}
 use Rattle.jlr_machine.specs.Objects.{◌∋◌, is_distinct}
-use Rattle.jlr_plain_collections.specs.Marks.{is_marked, IsTable}
+use Rattle.jlr_plain_collections.specs.Marks.{has_mark, IsTable}
 use Rattle.jlr_laws.proofs.Sets.{in_front, in_rest, in_cons}
 use Rattle.jlr_plain_collections.proofs.Slow.{same_bools}
 use Rattle.jlr_plain_collections.proofs.Marking.{unmarked_at, in_taken, taken_in}
 
 pub table_begins : (slots : List ℕ) (n : ℕ) (marks : List Bool) → marks ≡ replicate n false → IsTable (take 0 slots) marks
-table_begins slots n marks e s h = ap (λ l. is_marked l s) e ∙ unmarked_at n s
+table_begins slots n marks e s h = ap (λ l. has_mark l s) e ∙ unmarked_at n s
 
 pub table_more : (slots : List ℕ) (i x : ℕ) (now new : List Bool) → i < length slots → x ≡ get_or slots i x → IsTable (take i slots) now
     → new ≡ set now x true → IsTable (take (i + 1) slots) new
@@ -18,11 +18,11 @@ table_more slots i x now new h e t n s below =
     let long = ap length n ∙ length-set now x true in
     elim (cases_eq s x) [
       | inl same ↦
-          ap (λ l. is_marked l s) n ∙ ap (is_marked (set now x true)) same
+          ap (λ l. has_mark l s) n ∙ ap (has_mark (set now x true)) same
           ∙ get_or-set_same now x true false (omega (arith, below, long, same))
           ∙ sym (taken_in slots i x s h e (inr same))
       | inr other ↦
-          ap (λ l. is_marked l s) n ∙ get_or-set_other now x s true false other ∙ t s (omega (arith, below, long))
+          ap (λ l. has_mark l s) n ∙ get_or-set_other now x s true false other ∙ t s (omega (arith, below, long))
           ∙ same_bools (take i slots ∋ s) (take (i + 1) slots ∋ s) (λ m. taken_in slots i x s h e (inl m))
           (λ m. elim (in_taken slots i x s h e m) [ inl a ↦ a | inr same ↦ absurd (other same) ])
     ]
@@ -62,17 +62,17 @@ rest_table rest x now new t n s below =
     let long = ap length n ∙ length-set now x true in
     elim (cases_eq s x) [
       | inl same ↦
-          ap (λ l. is_marked l s) n ∙ ap (is_marked (set now x true)) same
+          ap (λ l. has_mark l s) n ∙ ap (has_mark (set now x true)) same
           ∙ get_or-set_same now x true false (omega (arith, below, long, same))
           ∙ sym (in_front s x rest same)
       | inr other ↦
-          ap (λ l. is_marked l s) n ∙ get_or-set_other now x s true false other ∙ t s (omega (arith, below, long))
+          ap (λ l. has_mark l s) n ∙ get_or-set_other now x s true false other ∙ t s (omega (arith, below, long))
           ∙ same_bools (rest ∋ s) ((x ∷ rest) ∋ s) (λ m. in_rest s x rest m)
           (λ m. elim (in_cons s x rest m) [ inl same ↦ absurd (other same) | inr later ↦ later ])
     ]
 
 pub rest_more : (slots : List ℕ) (n i x : ℕ) (now new : List Bool) → i < length slots → x ≡ get_or slots i x → x < n
-    → MarksRest n (drop (i + 1) slots) now → new ≡ set now x true → is_marked now x ≡ false → MarksRest n (drop i slots) new
+    → MarksRest n (drop (i + 1) slots) now → new ≡ set now x true → has_mark now x ≡ false → MarksRest n (drop i slots) new
 rest_more slots n i x now new h e below r s un =
     let at = drop_at slots i x h e in
     let not_there : (drop (i + 1) slots ∋ x) ≡ false = sym (r.table x (subst (λ k. x < k) (sym r.long) below)) ∙ un in
@@ -89,7 +89,7 @@ not_once (suc i) (x ∷ slots) h =
     ap (λ b. not (slots ∋ x) && b) (not_once i slots h) ∙ elim (slots ∋ x) as (λ b. (not b && false) ≡ false) [ true ↦ refl | false ↦ refl ]
 
 pub rest_stops : (slots : List ℕ) (n i x : ℕ) (now : List Bool) → i < length slots → x ≡ get_or slots i x → x < n
-    → MarksRest n (drop (i + 1) slots) now → is_marked now x ≡ true → false ≡ is_distinct slots
+    → MarksRest n (drop (i + 1) slots) now → has_mark now x ≡ true → false ≡ is_distinct slots
 rest_stops slots n i x now h e below r on =
     let at = drop_at slots i x h e in
     let there : (drop (i + 1) slots ∋ x) ≡ true = sym (r.table x (subst (λ k. x < k) (sym r.long) below)) ∙ on in

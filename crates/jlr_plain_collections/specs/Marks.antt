@@ -4,18 +4,18 @@ use Rattle.jlr_machine.specs.Objects.{◌∈◌, ◌∋◌}
 use Rattle.jlr_machine.specs.Edges.{Chain}
 use Rattle.jlr_machine.specs.Edges.Chain.{Strong, UpToSoft}
 
-abbrev pub is_marked : List Bool → ℕ → Bool
-is_marked marks s = slice_index_or marks s false
+abbrev pub has_mark : List Bool → ℕ → Bool
+has_mark marks s = slice_index_or marks s false
 
 abbrev pub HasMark : List Bool → ℕ → Type 0
-HasMark marks s = is_marked marks s ≡ true
+HasMark marks s = has_mark marks s ≡ true
 
-abbrev pub marked : List Bool → ℕ
-marked marks = count_by (λ b. b) marks
+abbrev pub marked_count : List Bool → ℕ
+marked_count marks = count_by (λ b. b) marks
 
 -- a mark for each slot that has one: whether it is in the list
 abbrev pub IsTable : List ℕ → List Bool → Type 0
-IsTable slots marks = (s : ℕ) → s < length marks → is_marked marks s ≡ (slots ∋ s)
+IsTable slots marks = (s : ℕ) → s < length marks → has_mark marks s ≡ (slots ∋ s)
 
 -- just the members of T are marked too, and those of them that are new go to the others on the list of what was not
 -- looked at
@@ -27,7 +27,7 @@ pub record Greyed (T : ℕ → Type 0) (old : List Bool) (before : List ℕ) (ne
   pub waiting : (s : ℕ) → s ∈ before → s ∈ after
   pub listed : (s : ℕ) → s ∈ after → (s ∈ before) ⊎ HasMark new s
   pub fresh : (s : ℕ) → HasMark new s → HasMark old s ⊎ (s ∈ after)
-  pub count : marked new + length before ≡ marked old + length after
+  pub count : marked_count new + length before ≡ marked_count old + length after
 
 -- strong and soft edges, or strong ones alone
 abbrev pub chain_of : Bool → Chain

@@ -6,9 +6,9 @@ ghost use Rattle.jlr_machine.specs.Edges.{edges_from};
 ghost use Rattle.jlr_machine.specs.Collection.{is_ready, IsCollection};
 ghost use Rattle.jlr_machine.specs.ReachSet.{reach_set};
 ghost use Rattle.jlr_machine.specs.Edges.Chain.{Strong};
-ghost use Rattle.jlr_plain_collections.specs.Marks.{is_marked, IsTable, chain_of};
+ghost use Rattle.jlr_plain_collections.specs.Marks.{has_mark, IsTable, chain_of};
 ghost use Rattle.jlr_laws.specs.Laws.{IsWithinHeap, only};
-ghost use Rattle.jlr_laws.specs.Deciding.{cuts_off, cuts_off_in_background, holds_all, are_objects, is_closed};
+ghost use Rattle.jlr_laws.specs.Deciding.{cuts_off, cuts_off_in_background, holds_all, are_objects, is_closed_set};
 ghost use Rattle.jlr_laws.specs.Deciding.{goes_out, loses_referent, hands_over};
 
 use crate::edges::list_edges;
@@ -212,13 +212,13 @@ fn all_edges_held(
 }
 
 fn closed(alloc: Global, objects: &Table<Object>, kept: &SlotList) -> Result<bool, AllocError>
-    ensures { IfOk result (λ b. b ≡ is_closed objects.now kept.now) }
+    ensures { IfOk result (λ b. b ≡ is_closed_set objects.now kept.now) }
 {
     all_edges_held(alloc, objects, kept, kept.as_slice())
 }
 
 fn all_marked(marks: &[bool], slots: &[Slot]) -> bool
-    ensures { result ≡ list_all (is_marked marks.now) slots.now }
+    ensures { result ≡ list_all (has_mark marks.now) slots.now }
 {
     slots.iter().all(|&slot| is_marked_at(marks, slot))
 }

@@ -3,7 +3,7 @@ ghost use Rattle.std.specs.Prelude.{◌≡◌, ℕ, ◌<◌, true, false, replic
 ghost use Rattle.jlr_machine.specs.Objects.{◌∋◌, ◌∈◌};
 ghost use Rattle.jlr_machine.specs.Edges.{edges_from};
 ghost use Rattle.jlr_machine.specs.ReachSet.{reach_set};
-ghost use Rattle.jlr_plain_collections.specs.Marks.{is_marked, Greyed, chain_of};
+ghost use Rattle.jlr_plain_collections.specs.Marks.{has_mark, Greyed, chain_of};
 ghost use Rattle.jlr_laws.specs.Laws.{IsWithinHeap, only};
 
 use crate::edges::list_edges;
@@ -17,7 +17,7 @@ use std::alloc::{AllocError, Global};
 pub(crate) fn mark(marks: &mut [bool], slot: Slot) -> bool
     requires { slot < length marks.old }
     ensures marks { marks.new ≡ slice_set marks.old slot true }
-    ensures new { result ≡ not (is_marked marks.old slot) }
+    ensures new { result ≡ not (has_mark marks.old slot) }
 {
     let i = slot.number() as usize;
     let old = marks[i];
@@ -81,7 +81,7 @@ pub(crate) fn mark_reached(
     requires within { IsWithinHeap objects.now base.now }
     requires unmarked { marks.old ≡ replicate (length objects.now) false }
     ensures long { OnOk result (length marks.new ≡ length marks.old) }
-    ensures reached { OnOk result ((s : ℕ) → is_marked marks.new s ≡
+    ensures reached { OnOk result ((s : ℕ) → has_mark marks.new s ≡
         (reach_set (chain_of softly) (only kept.now objects.now) base.now ∋ s)) }
 {
     let mut edges = Vec::new(alloc);
@@ -94,7 +94,7 @@ pub(crate) fn mark_reached(
 }
 
 pub(crate) fn is_marked_at(marks: &[bool], slot: Slot) -> bool
-    ensures { result ≡ is_marked marks.now slot }
+    ensures { result ≡ has_mark marks.now slot }
 {
     let i = slot.number() as usize;
     if i < marks.len() {

@@ -6,7 +6,7 @@ ghost use Rattle.jlr_machine.specs.Edges.Chain.{UpToSoft};
 ghost use Rattle.jlr_machine.specs.ReachSet.{up_to, reach_set};
 ghost use Rattle.jlr_machine.specs.Run.{seen_with, now_seen};
 ghost use Rattle.jlr_laws.specs.Laws.{IsWithinHeap};
-ghost use Rattle.jlr_plain_collections.specs.Marks.{is_marked};
+ghost use Rattle.jlr_plain_collections.specs.Marks.{has_mark};
 
 use crate::collection::listed;
 use crate::listed::{SlotList, unmarked};
@@ -36,7 +36,7 @@ fn all_slots(alloc: Global, cells: usize) -> Result<Vec<Slot>, AllocError>
 }
 
 fn is_seen(seen: &SlotList, marks: &[bool], slot: Slot) -> bool
-    ensures { result ≡ ((seen.now ∋ slot) || is_marked marks.now slot) }
+    ensures { result ≡ ((seen.now ∋ slot) || has_mark marks.now slot) }
 {
     seen.holds(slot) || is_marked_at(marks, slot)
 }
@@ -49,7 +49,7 @@ fn push_if_seen(
 ) -> Result<(), AllocError>
     requires { number < 2 ^ 32 }
     ensures { OnOk result (out.new.items ≡ out.old.items
-        ++ cond ((seen.now ∋ number) || is_marked marks.now number) (number ∷ []) []) }
+        ++ cond ((seen.now ∋ number) || has_mark marks.now number) (number ∷ []) []) }
 {
     if is_seen(seen, marks, Slot::new(number as u32)) {
         push_slot(out, number)?;
@@ -64,7 +64,7 @@ fn seen_or_marked(
     cells: usize,
 ) -> Result<Vec<Slot>, AllocError>
     requires { cells ≤ 2 ^ 32 }
-    ensures { IfOk result (λ v. v.items ≡ filter (λ s. (seen.now ∋ s) || is_marked marks.now s) (up_to 0 cells)) }
+    ensures { IfOk result (λ v. v.items ≡ filter (λ s. (seen.now ∋ s) || has_mark marks.now s) (up_to 0 cells)) }
 {
     let mut out = Vec::new(alloc);
     for i in 0..cells {
@@ -86,7 +86,7 @@ fn every_slot(alloc: Global, cells: usize) -> Result<SlotList, AllocError>
 fn marks_of_roots(alloc: Global, machine: &Machine) -> Result<Vec<bool>, AllocError>
     requires cells { length machine.now.objects ≤ 2 ^ 32 }
     requires within { IsWithinHeap machine.now.objects (roots machine.now) }
-    ensures { IfOk result (λ m. (s : ℕ) → is_marked m.items s ≡
+    ensures { IfOk result (λ m. (s : ℕ) → has_mark m.items s ≡
         (reach_set UpToSoft machine.now.objects (roots machine.now) ∋ s)) }
 {
     let cells = machine.objects.len();

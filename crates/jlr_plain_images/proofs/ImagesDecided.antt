@@ -5,11 +5,11 @@ use Rattle.std.proofs.lemmas.Bool.{both_ways}
 use Rattle.jlr_machine.specs.declared.machine.Machine.{Machine}
 use Rattle.jlr_machine.specs.Objects.{is_rising}
 use Rattle.jlr_laws.specs.Deciding.{is_empty}
-use Rattle.jlr_plain_images.specs.Images.{IsRestFit, itself, rest_fits}
+use Rattle.jlr_plain_images.specs.Images.{IsRestFit, own_number, rest_fits}
 use Rattle.jlr_plain_images.specs.Places.{rising_by}
 use Rattle.jlr_plain_images.proofs.Everywhere.{Decides-rising, Decides-most, Decides-less, Decides-all, also, turned}
 
-map_itself : (xs : List ℕ) → map itself xs ≡ xs
+map_itself : (xs : List ℕ) → map own_number xs ≡ xs
 map_itself [] = refl
 map_itself (x ∷ xs) = ap {A = List ℕ} {B = List ℕ} (λ l. x ∷ l) (map_itself xs)
 
@@ -23,7 +23,8 @@ unless_open false b d = ((λ h e. d.0 h), (λ w. d.1 (w refl)))
 
 pub rest_decided : (m : Machine) → IsTrue (rest_fits m) ↔ IsRestFit m
 rest_decided m =
-    let rising = subst (λ xs. Decides (rising_by itself m.seen) (is_rising xs ≡ true)) (map_itself m.seen) (Decides-rising itself m.seen) in
+    let rising = subst (λ xs. Decides (rising_by own_number m.seen) (is_rising xs ≡ true)) (map_itself m.seen)
+    (Decides-rising own_number m.seen) in
     let within =
     Decides-all (λ s. nat_lt s (length m.objects)) (λ s. s < length m.objects) m.seen (λ s. Decides-less s (length m.objects)) in
     let seen = also (also rising within) (unless_open m.cycle_open (is_empty m.seen) (Decides-empty m.seen)) in

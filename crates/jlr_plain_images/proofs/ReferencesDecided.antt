@@ -14,7 +14,7 @@ use Rattle.jlr_machine.specs.WellFormed.{AreReferences, FitsItsState}
 use Rattle.jlr_laws.proofs.Sets.{nothing}
 use Rattle.jlr_laws.proofs.Frames.{no_some, place_within}
 use Rattle.jlr_plain_images.specs.Places.{on_queue}
-use Rattle.jlr_plain_images.specs.References.{fits_state, fits_own_state, is_queued_object, members_fit, members_in, is_disjoint}
+use Rattle.jlr_plain_images.specs.References.{fits_state, fits_own_state, is_queued_object, members_fit, queue_members, is_disjoint}
 use Rattle.jlr_plain_images.specs.References.{shares_nothing, queues_are_apart, references_fit}
 use Rattle.jlr_plain_images.proofs.States.{queued_is}
 use Rattle.jlr_plain_images.proofs.Everywhere.{Decides-all, Decides-numbers, Decides-references, Decides-queues, Decides-slots}
@@ -47,7 +47,7 @@ Decides-queued (Some o) = (queued_there o, (λ q. ap (some_and is_queued_object)
 
 -- ---- Queues apart
 
-members_there : (o : Option Object) (s : ℕ) → s ∈ members_in o → (members : List ℕ) × (o ≡ Some (Queue members)) × (s ∈ members)
+members_there : (o : Option Object) (s : ℕ) → s ∈ queue_members o → (members : List ℕ) × (o ≡ Some (Queue members)) × (s ∈ members)
 members_there None s h = nothing s h
 members_there (Some (Queue members)) s h = (members, refl, h)
 members_there (Some _) s h = nothing s h
@@ -64,20 +64,20 @@ SharesNothing heap p xs = (q s : ℕ) (ys : List ℕ) → at heap q ≡ Some (Qu
 
 shares_gives : (heap : Heap) (p : ℕ) (xs : List ℕ) → shares_nothing heap p xs ≡ true → SharesNothing heap p xs
 shares_gives heap p xs h q s ys e a b =
-    elim (or_cases (nat_eq p q) (is_disjoint (members_in (at heap q)) xs)
-    ((Decides-numbers (length heap) (λ q. nat_eq p q || is_disjoint (members_in (at heap q)) xs)).0 h q
+    elim (or_cases (nat_eq p q) (is_disjoint (queue_members (at heap q)) xs)
+    ((Decides-numbers (length heap) (λ q. nat_eq p q || is_disjoint (queue_members (at heap q)) xs)).0 h q
     (place_within heap q (Queue ys) e))) [
       | inl same ↦ eqb-true p q same
-      | inr apart ↦ absurd ((Decides-disjoint (members_in (at heap q)) xs).0 apart s (subst (λ o. s ∈ members_in o) (sym e) b) a)
+      | inr apart ↦ absurd ((Decides-disjoint (queue_members (at heap q)) xs).0 apart s (subst (λ o. s ∈ queue_members o) (sym e) b) a)
     ]
 
 shares_from : (heap : Heap) (p : ℕ) (xs : List ℕ) → SharesNothing heap p xs → shares_nothing heap p xs ≡ true
 shares_from heap p xs w =
-    (Decides-numbers (length heap) (λ q. nat_eq p q || is_disjoint (members_in (at heap q)) xs)).1 (λ q _.
+    (Decides-numbers (length heap) (λ q. nat_eq p q || is_disjoint (queue_members (at heap q)) xs)).1 (λ q _.
     elim (cases_eq p q) [
-      | inl same ↦ or_left (nat_eq p q) (is_disjoint (members_in (at heap q)) xs) (eq-eqb p q same)
-      | inr other ↦ or_right (nat_eq p q) (is_disjoint (members_in (at heap q)) xs)
-          ((Decides-disjoint (members_in (at heap q)) xs).1 (λ s b a.
+      | inl same ↦ or_left (nat_eq p q) (is_disjoint (queue_members (at heap q)) xs) (eq-eqb p q same)
+      | inr other ↦ or_right (nat_eq p q) (is_disjoint (queue_members (at heap q)) xs)
+          ((Decides-disjoint (queue_members (at heap q)) xs).1 (λ s b a.
           let m = members_there (at heap q) s b in
           other (w q s m.0 m.1 a m.2)))
     ])

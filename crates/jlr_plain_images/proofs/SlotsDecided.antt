@@ -18,33 +18,33 @@ use Rattle.jlr_laws.proofs.Clearing.{in_option, edge_gives, edge_from, referent_
 use Rattle.jlr_laws.proofs.Frames.{no_some, root_gives, root_from}
 use Rattle.jlr_laws.proofs.Frames.IsRoot.{held, fencing, named, waiting, lining, active}
 use Rattle.jlr_plain_images.specs.Places.{none_or}
-use Rattle.jlr_plain_images.specs.Slots.{is_there, edges_there, session_there, roots_there, queue_there, cleanable_there, slots_fit}
+use Rattle.jlr_plain_images.specs.Slots.{has_object_at, edges_there, session_there, roots_there, queue_there, cleanable_there, slots_fit}
 use Rattle.jlr_plain_images.proofs.Everywhere.{Decides-all, Decides-places, Decides-references, Decides-guards, Decides-true, Decides-any}
 use Rattle.jlr_plain_images.proofs.Everywhere.{Decides-contents, Decides-bound, also, turned}
 
 -- ---- Edges
 
 abbrev IsThere : Heap → ℕ → Type 0
-IsThere heap s = is_there heap s ≡ true
+IsThere heap s = has_object_at heap s ≡ true
 
-Decides-there : (heap : Heap) (s : ℕ) → Decides (is_there heap s) (IsThere heap s)
-Decides-there heap s = Decides-true (is_there heap s)
+Decides-there : (heap : Heap) (s : ℕ) → Decides (has_object_at heap s) (IsThere heap s)
+Decides-there heap s = Decides-true (has_object_at heap s)
 
 abbrev Leads : Heap → Object → Type 0
 Leads heap o = ((x : ℕ) → x ∈ strong_edges o → IsThere heap x) × ((x : ℕ) → any_referent o ≡ Some x → IsThere heap x)
 
-any_there : (heap : Heap) (o : Option ℕ) → Decides (none_or (is_there heap) o) ((x : ℕ) → o ≡ Some x → IsThere heap x)
-any_there heap o = Decides-any (is_there heap) (IsThere heap) o (Decides-there heap)
+any_there : (heap : Heap) (o : Option ℕ) → Decides (none_or (has_object_at heap) o) ((x : ℕ) → o ≡ Some x → IsThere heap x)
+any_there heap o = Decides-any (has_object_at heap) (IsThere heap) o (Decides-there heap)
 
-all_there : (heap : Heap) (slots : List ℕ) → Decides (list_all (is_there heap) slots) ((x : ℕ) → x ∈ slots → IsThere heap x)
-all_there heap slots = Decides-all (is_there heap) (IsThere heap) slots (Decides-there heap)
+all_there : (heap : Heap) (slots : List ℕ) → Decides (list_all (has_object_at heap) slots) ((x : ℕ) → x ∈ slots → IsThere heap x)
+all_there heap slots = Decides-all (has_object_at heap) (IsThere heap) slots (Decides-there heap)
 
 listed : (x : ℕ) (o : Option ℕ) → o ≡ Some x → x ∈ option_to_list o
 listed x o e = subst (λ o. x ∈ option_to_list o) (sym e) (in_front x x [] refl)
 
 Decides-leads : (heap : Heap) (o : Object) → Decides (edges_there heap o) (Leads heap o)
 Decides-leads heap (Plain fields) =
-    let d = Decides-contents (is_there heap) (IsThere heap) fields (Decides-there heap) in
+    let d = Decides-contents (has_object_at heap) (IsThere heap) fields (Decides-there heap) in
     ((λ h. (d.0 h, λ x e. no_some x e)), (λ p. d.1 p.0))
 Decides-leads heap (Reference r) =
     turned (also (any_there heap (queue_ahead r)) (any_there heap r.referent))
@@ -80,7 +80,7 @@ abbrev SessionThere : Heap → Session → Type 0
 SessionThere heap s = ((h x : ℕ) → at s.handles h ≡ Some x → IsThere heap x) × ((x : ℕ) → s.fence ≡ Some x → IsThere heap x)
 
 Decides-session : (heap : Heap) (s : Session) → Decides (session_there heap s) (SessionThere heap s)
-Decides-session heap s = also (Decides-places (is_there heap) (IsThere heap) s.handles (Decides-there heap)) (any_there heap s.fence)
+Decides-session heap s = also (Decides-places (has_object_at heap) (IsThere heap) s.handles (Decides-there heap)) (any_there heap s.fence)
 
 own_root_there : (o : Option Object) → is_own_root o ≡ true → is_some o ≡ true
 own_root_there None h = absurd (both_ways false refl h)
@@ -89,7 +89,7 @@ own_root_there (Some o) h = refl
 Decides-roots : (m : Machine) → Decides (roots_there m) ((s : ℕ) → s ∈ roots m → IsThere m.objects s)
 Decides-roots m =
     let sessions = Decides-places (session_there m.objects) (SessionThere m.objects) m.mutators (Decides-session m.objects) in
-    let names = Decides-bound (is_there m.objects) (IsThere m.objects) m.names (Decides-there m.objects) in
+    let names = Decides-bound (has_object_at m.objects) (IsThere m.objects) m.names (Decides-there m.objects) in
     turned (also (also (also sessions names) (all_there m.objects m.pending)) (all_there m.objects m.line))
     (λ p s h. elim (root_gives m s h) [
       | held k h session e f ↦ (p.0.0.0 k session e).0 h s f

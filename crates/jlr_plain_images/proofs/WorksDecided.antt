@@ -12,7 +12,8 @@ use Rattle.jlr_machine.specs.Lookups.{resource_at, rid_of}
 use Rattle.jlr_machine.specs.WellFormed.{HasResource}
 use Rattle.jlr_laws.proofs.Frames.{no_some, some_same}
 use Rattle.jlr_laws.proofs.Keyed.{key_found}
-use Rattle.jlr_plain_images.specs.Resources.{is_on_resource, is_work_on, is_opening, is_idle, is_out, is_closing, is_state, fits_resource}
+use Rattle.jlr_plain_images.specs.Resources.{is_on_resource, is_work_on, is_opening_state, is_idle, is_state_out, is_closing, is_state}
+use Rattle.jlr_plain_images.specs.Resources.{fits_resource}
 use Rattle.jlr_plain_images.specs.Resources.{has_resource}
 use Rattle.jlr_plain_images.proofs.Everywhere.{there_gives}
 
@@ -34,7 +35,7 @@ on_gives (Note n) h = absurd (both_ways false refl h)
 
 -- ---- States
 
-pub opening_is : (s : ResourceState) → is_opening s ≡ true → s ≡ Opening
+pub opening_is : (s : ResourceState) → is_opening_state s ≡ true → s ≡ Opening
 opening_is Opening h = refl
 opening_is Idle h = absurd (both_ways false refl h)
 opening_is Out h = absurd (both_ways false refl h)
@@ -46,7 +47,7 @@ idle_is Opening h = absurd (both_ways false refl h)
 idle_is Out h = absurd (both_ways false refl h)
 idle_is Closing h = absurd (both_ways false refl h)
 
-pub out_is : (s : ResourceState) → is_out s ≡ true → s ≡ Out
+pub out_is : (s : ResourceState) → is_state_out s ≡ true → s ≡ Out
 out_is Out h = refl
 out_is Opening h = absurd (both_ways false refl h)
 out_is Idle h = absurd (both_ways false refl h)

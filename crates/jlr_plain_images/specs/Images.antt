@@ -15,11 +15,11 @@ pub record IsRestFit (m : Machine) : Type 0 where
   pub seen_in_cycle : m.cycle_open ≡ false → m.seen ≡ []
 
 -- slots are in the order of their numbers
-abbrev pub itself : ℕ → ℕ
-itself s = s
+abbrev pub own_number : ℕ → ℕ
+own_number s = s
 
 abbrev pub seen_fits : Machine → Bool
-seen_fits m = rising_by itself m.seen && list_all (λ s. nat_lt s (length m.objects)) m.seen
+seen_fits m = rising_by own_number m.seen && list_all (λ s. nat_lt s (length m.objects)) m.seen
     && (m.cycle_open || is_empty m.seen)
 
 -- what a well-formed machine keeps beside its nine parts, as a test

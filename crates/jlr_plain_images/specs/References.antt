@@ -40,9 +40,9 @@ abbrev pub queues_fit : Heap → Bool
 queues_fit heap = list_all (none_or (on_queue (members_fit heap))) heap
 
 -- the members of the queue there, if it is one
-abbrev pub members_in : Option Object → List ℕ
-members_in (Some (Queue members)) = members
-members_in _ = []
+abbrev pub queue_members : Option Object → List ℕ
+queue_members (Some (Queue members)) = members
+queue_members _ = []
 
 -- no member of the one is in the other
 abbrev pub is_disjoint : List ℕ → List ℕ → Bool
@@ -51,7 +51,7 @@ is_disjoint xs ys = list_all (λ s. not (ys ∋ s)) xs
 -- the queue at p, with these members, has none that another queue has
 abbrev pub shares_nothing : Heap → ℕ → List ℕ → Bool
 shares_nothing heap p members =
-    each_number (length heap) (λ q. nat_eq p q || is_disjoint (members_in (at heap q)) members)
+    each_number (length heap) (λ q. nat_eq p q || is_disjoint (queue_members (at heap q)) members)
 
 -- no two queues share a member
 abbrev pub queues_are_apart : Heap → Bool

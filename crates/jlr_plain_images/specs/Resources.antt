@@ -29,11 +29,11 @@ is_work_on rid (WorkOn r) = nat_eq r rid
 is_work_on rid (Note n) = false
 
 -- states, one by one
-abbrev pub is_opening : ResourceState → Bool
-is_opening Opening = true
-is_opening Idle = false
-is_opening Out = false
-is_opening Closing = false
+abbrev pub is_opening_state : ResourceState → Bool
+is_opening_state Opening = true
+is_opening_state Idle = false
+is_opening_state Out = false
+is_opening_state Closing = false
 
 abbrev pub is_idle : ResourceState → Bool
 is_idle Idle = true
@@ -41,11 +41,11 @@ is_idle Opening = false
 is_idle Out = false
 is_idle Closing = false
 
-abbrev pub is_out : ResourceState → Bool
-is_out Out = true
-is_out Opening = false
-is_out Idle = false
-is_out Closing = false
+abbrev pub is_state_out : ResourceState → Bool
+is_state_out Out = true
+is_state_out Opening = false
+is_state_out Idle = false
+is_state_out Closing = false
 
 abbrev pub is_closing : ResourceState → Bool
 is_closing Closing = true
@@ -55,9 +55,9 @@ is_closing Out = false
 
 -- the state is the wanted one
 abbrev pub is_state : ResourceState → ResourceState → Bool
-is_state Opening s = is_opening s
+is_state Opening s = is_opening_state s
 is_state Idle s = is_idle s
-is_state Out s = is_out s
+is_state Out s = is_state_out s
 is_state Closing s = is_closing s
 
 -- it has this action and this state

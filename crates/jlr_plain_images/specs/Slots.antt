@@ -13,33 +13,33 @@ use Rattle.jlr_machine.specs.Refusals.{is_queue, is_cleanable}
 use Rattle.jlr_plain_images.specs.Places.{none_or, each_slot, on_reference, on_guard}
 
 -- there is an object at s
-abbrev pub is_there : Heap → ℕ → Bool
-is_there heap s = is_some (at heap s)
+abbrev pub has_object_at : Heap → ℕ → Bool
+has_object_at heap s = is_some (at heap s)
 
 -- what the fields or elements refer to is there
 abbrev pub fields_there : Heap → Contents → Bool
-fields_there heap fields = each_slot (is_there heap) fields
+fields_there heap fields = each_slot (has_object_at heap) fields
 
 -- what its strong edges and its referent name is there
 abbrev pub edges_there : Heap → Object → Bool
 edges_there heap (Plain fields) = fields_there heap fields
-edges_there heap (Reference r) = none_or (is_there heap) (queue_ahead r) && none_or (is_there heap) r.referent
-edges_there heap (Queue members) = list_all (is_there heap) members
+edges_there heap (Reference r) = none_or (has_object_at heap) (queue_ahead r) && none_or (has_object_at heap) r.referent
+edges_there heap (Queue members) = list_all (has_object_at heap) members
 edges_there heap Cleaner = true
-edges_there heap (Cleanable c) = none_or (is_there heap) c.referent
-edges_there heap (Guard g) = is_there heap g.cleanable
+edges_there heap (Cleanable c) = none_or (has_object_at heap) c.referent
+edges_there heap (Guard g) = has_object_at heap g.cleanable
 
 -- what a mutator names is there
 abbrev pub session_there : Heap → Session → Bool
-session_there heap s = list_all (none_or (is_there heap)) s.handles && none_or (is_there heap) s.fence
+session_there heap s = list_all (none_or (has_object_at heap)) s.handles && none_or (has_object_at heap) s.fence
 
 -- what handles, fences, names, the pending list and the line name is there; Armed and Pending cleanables are
 abbrev pub roots_there : Machine → Bool
 roots_there m =
     list_all (none_or (session_there m.objects)) m.mutators
-    && list_all (λ b. is_there m.objects b.slot) m.names
-    && list_all (is_there m.objects) m.pending
-    && list_all (is_there m.objects) m.line
+    && list_all (λ b. has_object_at m.objects b.slot) m.names
+    && list_all (has_object_at m.objects) m.pending
+    && list_all (has_object_at m.objects) m.line
 
 -- the reference's queue is a queue
 abbrev pub queue_there : Heap → ReferenceOf → Bool

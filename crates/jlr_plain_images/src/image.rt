@@ -4,7 +4,7 @@ ghost use Rattle.std.specs.List.{list_all};
 ghost use Rattle.jlr_machine.specs.WellFormed.{IsWellFormed, IsImage};
 ghost use Rattle.jlr_laws.specs.Deciding.{is_empty};
 ghost use Rattle.jlr_plain_images.specs.Places.{rising_by};
-ghost use Rattle.jlr_plain_images.specs.Images.{itself, seen_fits, rest_fits, IsRestFit};
+ghost use Rattle.jlr_plain_images.specs.Images.{own_number, seen_fits, rest_fits, IsRestFit};
 
 use crate::calls::are_calls;
 use crate::parts::actions::are_actions;
@@ -25,7 +25,7 @@ fn all_later(slot: Slot, slots: &[Slot]) -> bool
 }
 
 fn slots_rise(slots: &[Slot]) -> bool
-    ensures { result ≡ rising_by itself slots.now }
+    ensures { result ≡ rising_by own_number slots.now }
 {
     let mut i: usize = 0;
     while i < slots.len() {

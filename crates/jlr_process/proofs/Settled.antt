@@ -12,7 +12,7 @@ use Rattle.jlr_machine.specs.Objects.{Table, Heap, any_referent, at, change_at, 
 use Rattle.jlr_machine.specs.Objects.{with_reference, some_and}
 use Rattle.jlr_machine.specs.Calls.{unreferred}
 use Rattle.jlr_machine.specs.Collection.{is_ready}
-use Rattle.jlr_cells.specs.Contents.{in_clean_state, in_state, next_in, without_referent}
+use Rattle.jlr_cells.specs.Contents.{in_clean_state, in_state, next_in, cleanable_without_referent}
 use Rattle.std.proofs.lemmas.Bool.{and_parts}
 use Rattle.jlr_laws.proofs.Frames.{fresh_unqueued, set_same, place_within}
 use Rattle.jlr_barrier.specs.Graphs.{Graph, with_objects, with_pending}
@@ -81,7 +81,7 @@ settled_cleanable m c x refers unmarked ready =
 pub cleanable_handed_over :
     (m : Marking) (g a b d : Graph) (s x : ℕ) (c : CleanableOf) → at g.objects s ≡ Some (Cleanable c) → c.referent ≡ Some x
     → is_marked m x ≡ false → is_ready (Cleanable c) ≡ true
-    → a ≡ with_objects g (change_at g.objects s (with_cleanable without_referent))
+    → a ≡ with_objects g (change_at g.objects s (with_cleanable cleanable_without_referent))
     → b ≡ with_objects a (change_at a.objects s (with_cleanable (in_clean_state PendingClean)))
     → d ≡ with_pending b (b.pending ++ s ∷ [])
     → d ≡ with_settled m g s (Cleanable c)
@@ -90,7 +90,7 @@ cleanable_handed_over m g a b d s x c here refers unmarked ready ea eb ed =
     ed
     ∙ ap (λ k. with_pending k (k.pending ++ s ∷ []))
     (eb ∙ ap (λ k. with_objects k (change_at k.objects s (with_cleanable (in_clean_state PendingClean)))) ea)
-    ∙ ap (λ h. put h (g.pending ++ s ∷ [])) (changed_twice g.objects s (Cleanable c) (with_cleanable without_referent)
+    ∙ ap (λ h. put h (g.pending ++ s ∷ [])) (changed_twice g.objects s (Cleanable c) (with_cleanable cleanable_without_referent)
     (with_cleanable (in_clean_state PendingClean)) here)
     ∙ ap (λ o. put (slice_set g.objects s (Some o)) (g.pending ++ s ∷ [])) (sym (settled_cleanable m c x refers unmarked ready))
     ∙ ap (λ l. put (slice_set g.objects s (Some (settled_object m (Cleanable c)))) (g.pending ++ only_if l s))

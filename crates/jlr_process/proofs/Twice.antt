@@ -20,7 +20,8 @@ use Rattle.jlr_barrier.specs.Graphs.{Graph}
 use Rattle.jlr_barrier.specs.Snapshots.{RefersTo}
 use Rattle.jlr_marks.specs.Marking.{Marking, IsMarked, is_marked}
 use Rattle.jlr_marks.proofs.Shading.{marked_within}
-use Rattle.jlr_process.specs.Settling.{SettlesSlots, cleared, cleared_graph, is_losing, kept_at, loses, marked_referent, newly_pending}
+use Rattle.jlr_process.specs.Settling.{SettlesSlots, cleared, cleared_graph, is_losing, kept_if_marked, loses, marked_referent}
+use Rattle.jlr_process.specs.Settling.{newly_pending}
 use Rattle.jlr_process.specs.Settling.{only_if}
 use Rattle.jlr_process.specs.Settling.{settled, settled_object}
 use Rattle.jlr_process.proofs.Whole.{losing_is_marked, losing_loses, same_bool}
@@ -324,7 +325,7 @@ module _ (m : Marking) (old : Heap) (found : List ℕ)
       ] refl
 
   -- with what was discovered settled, and what is not marked gone, every place is settled
-  pub settled_there : (s : ℕ) → kept_at m s (cond (found ∋ s) (cleared m s (at old s)) (at old s)) ≡ settled m s (at old s)
+  pub settled_there : (s : ℕ) → kept_if_marked m s (cond (found ∋ s) (cleared m s (at old s)) (at old s)) ≡ settled m s (at old s)
   settled_there s =
       elim (is_marked m s) as (λ b. is_marked m s ≡ b
       → cond {A = Option Object} b (cond (found ∋ s) (cond b (option_map (settled_object m) (at old s)) (at old s)) (at old s)) None

@@ -79,14 +79,14 @@ pub record SettlesSlots (m : Marking) (slots : List ℕ) (old : Graph) (before :
   pub chosen : after ≡ collecting before [] lost
 
 -- what is at a slot is kept, if it is marked
-abbrev pub kept_at : Marking → ℕ → Option Object → Option Object
-kept_at m s o = cond (is_marked m s) o None
+abbrev pub kept_if_marked : Marking → ℕ → Option Object → Option Object
+kept_if_marked m s o = cond (is_marked m s) o None
 
 -- What is marked is kept, and all else is gone. The choice says so, and what became pending before
 pub record KeepsWhatIsMarked (m : Marking) (old : Graph) (before : Choosing) (new : Graph) (after : Choosing) : Type 0
   where
     pub long : length new.objects ≡ length old.objects
-    pub objects : (s : ℕ) → s < length old.objects → at new.objects s ≡ kept_at m s (at old.objects s)
+    pub objects : (s : ℕ) → s < length old.objects → at new.objects s ≡ kept_if_marked m s (at old.objects s)
     pub pending : new.pending ≡ old.pending
     pub line : new.line ≡ old.line
     pub mutators : new.mutators ≡ old.mutators

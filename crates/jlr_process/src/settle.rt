@@ -8,7 +8,7 @@ ghost use Rattle.jlr_machine.specs.Collection.{is_ready};
 ghost use Rattle.jlr_machine.specs.Choices.{collecting, kept_by, pended_by};
 ghost use Rattle.jlr_marks.specs.Marking.{IsMarked, is_marked};
 ghost use Rattle.jlr_barrier.specs.Graphs.{with_objects};
-ghost use Rattle.jlr_process.specs.Settling.{cleared_graph, newly_pending, is_losing, kept_at, loses, only_if};
+ghost use Rattle.jlr_process.specs.Settling.{cleared_graph, newly_pending, is_losing, kept_if_marked, loses, only_if};
 ghost use Rattle.jlr_process.specs.Settling.{with_settled};
 
 use jlr_barrier::Heap;

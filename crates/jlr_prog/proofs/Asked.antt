@@ -24,7 +24,7 @@ use Rattle.jlr_event.specs.declared.event.Reply.{Reply}
 use Rattle.jlr_event.specs.declared.event.Reply.TheVariants.{Answered}
 use Rattle.jlr_event.specs.Events.{ask_of, answer_in, resource_of_reply, outcome_of}
 use Rattle.jlr_prog.specs.Cores.{GoesOut, entry_of}
-use Rattle.jlr_session.specs.Asks.{prepared_in, prepared_by, out_with, out_by, job_with, job_by}
+use Rattle.jlr_session.specs.Asks.{room_prepared, prepared_by, out_with, out_by, job_with, job_by}
 use Rattle.jlr_prog.specs.Histories.{History}
 use Rattle.jlr_prog.specs.Rules.{BookSteps}
 use Rattle.jlr_prog.specs.Solos.{at_book, cleaner_seat, handler_seat}
@@ -43,9 +43,9 @@ abbrev pub IsOut : Machine → Type 0
 IsOut n = (rid : ℕ) × IsCallOf n 0 (CallOut rid)
 
 prepared_leads : (answer : Answer) (n : Machine) → BeginsToOpen answer n
-    → MatchResult (prepared_in answer) (λ _. IsOpening n) (λ _. IsHere n)
-prepared_leads answer n (inl b) = subst (λ a. MatchResult (prepared_in a) (λ _. IsOpening n) (λ _. IsHere n)) (sym b.1) (b.0, b.2)
-prepared_leads answer n (inr r) = subst (λ a. MatchResult (prepared_in a) (λ _. IsOpening n) (λ _. IsHere n)) (sym r.0.1) r.1
+    → MatchResult (room_prepared answer) (λ _. IsOpening n) (λ _. IsHere n)
+prepared_leads answer n (inl b) = subst (λ a. MatchResult (room_prepared a) (λ _. IsOpening n) (λ _. IsHere n)) (sym b.1) (b.0, b.2)
+prepared_leads answer n (inr r) = subst (λ a. MatchResult (room_prepared a) (λ _. IsOpening n) (λ _. IsHere n)) (sym r.0.1) r.1
 
 module _ {R : Type 0} (m : Machine) (front : List Entry) where
   -- ---- Asks that leave mutator 0 alone

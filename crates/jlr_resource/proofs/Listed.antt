@@ -8,7 +8,7 @@ use Rattle.jlr_machine.specs.Lookups.{with_resource}
 use Rattle.jlr_resource.specs.declared.place.Kept.{Kept}
 use Rattle.jlr_resource.specs.Resources.{HeldResource, as_resource, resources_in, resource_in, state_in, state_of, value_of, kept_in}
 use Rattle.jlr_resource.specs.Resources.{values_in}
-use Rattle.jlr_resource.specs.Resources.{in_state, ended, with_held, with_kept, without_held}
+use Rattle.jlr_resource.specs.Resources.{resource_in_state, ended, with_held, with_kept, without_held}
 
 module _ {R : Type 0} where
   pub state_found : (held : List (HeldResource R)) (rid : ℕ) → state_in (resources_in held) rid ≡ option_map state_of (kept_in held rid)
@@ -21,12 +21,14 @@ module _ {R : Type 0} where
       ]
 
   pub resources_changed : (held : List (HeldResource R)) (rid : ℕ) (kept : Kept R)
-      → resources_in (with_kept held rid kept) ≡ in_state (resources_in held) rid (state_of kept)
+      → resources_in (with_kept held rid kept) ≡ resource_in_state (resources_in held) rid (state_of kept)
   resources_changed [] rid kept = refl
   resources_changed (h ∷ held) rid kept =
       rw (resources_changed held rid kept)
-      (elim (h.rid == rid) as (λ b. as_resource (cond b (record h { kept = kept }) h) ∷ in_state (resources_in held) rid (state_of kept)
-      ≡ cond b (record (as_resource h) { state = state_of kept }) (as_resource h) ∷ in_state (resources_in held) rid (state_of kept)) [
+      (elim (h.rid == rid) as (λ b. as_resource (cond b (record h { kept = kept }) h) ∷ resource_in_state (resources_in held) rid
+      (state_of kept)
+      ≡ cond b (record (as_resource h) { state = state_of kept }) (as_resource h) ∷ resource_in_state (resources_in held) rid
+      (state_of kept)) [
         | true ↦ refl
         | false ↦ refl
       ])

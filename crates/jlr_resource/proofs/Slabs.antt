@@ -11,7 +11,8 @@ use Rattle.slab.specs.Slab.{Slab, get, ContainsKey, Updates, with_value, slab_le
 use Rattle.slab.proofs.SlabLemmas.{Updates-with_value}
 use Rattle.jlr_resource.specs.declared.place.Kept.{Kept}
 use Rattle.jlr_resource.specs.declared.place.Place.{Place}
-use Rattle.jlr_resource.specs.Resources.{as_resource, resources_in, resource_in, state_in, in_state, ended, state_of, value_of, kept_in}
+use Rattle.jlr_resource.specs.Resources.{as_resource, resources_in, resource_in, state_in, resource_in_state, ended, state_of, value_of}
+use Rattle.jlr_resource.specs.Resources.{kept_in}
 use Rattle.jlr_resource.specs.Resources.{values_in, with_held, with_kept, without_held}
 use Rattle.jlr_resource.specs.Places.{held_by, held_from, AreRids}
 use Rattle.jlr_resource.proofs.Listed.{state_found, resources_changed, resources_ended, resources_new, values_new}
@@ -81,7 +82,7 @@ module _ {R : Type 0} where
     pub held_changed : held_by changed_slab ≡ with_kept (held_by slab) rid kept
     held_changed = changed_from 0 rid slab.slots rid p kept (omega arith) here
 
-    pub listed_changed : resources_in (held_by changed_slab) ≡ in_state (resources_in (held_by slab)) rid (state_of kept)
+    pub listed_changed : resources_in (held_by changed_slab) ≡ resource_in_state (resources_in (held_by slab)) rid (state_of kept)
     listed_changed = rw held_changed (resources_changed (held_by slab) rid kept)
 
     pub flow_changed : IsPermutation (option_to_list (value_of kept) ++ values_in (held_by slab))

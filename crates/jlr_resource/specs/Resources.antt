@@ -16,8 +16,8 @@ abbrev pub state_in : List Resource → ℕ → Option ResourceState
 state_in resources rid = option_map (λ r. r.state) (resource_in resources rid)
 
 -- the resource at a Rid goes to a state, as the machine has it
-abbrev pub in_state : List Resource → ℕ → ResourceState → List Resource
-in_state resources rid s =
+abbrev pub resource_in_state : List Resource → ℕ → ResourceState → List Resource
+resource_in_state resources rid s =
     map {A = Resource} {B = Resource} (λ r. if r.rid == rid then record r { state = s } else r) resources
 
 -- the resource at a Rid has ended, as the machine has it
@@ -65,8 +65,8 @@ module _ {R : Type 0} where
   abbrev pub resources : Resources R → List Resource
   resources t = resources_in t.held
 
-  abbrev pub state_at : Resources R → ℕ → Option ResourceState
-  state_at t rid = state_in (resources t) rid
+  abbrev pub resource_state_at : Resources R → ℕ → Option ResourceState
+  resource_state_at t rid = state_in (resources t) rid
 
   abbrev pub kept_in : List (HeldResource R) → ℕ → Option (Kept R)
   kept_in held rid = option_map (λ h. h.kept) (find (λ h. h.rid == rid) held)

@@ -6,8 +6,10 @@ ghost use Rattle.std.specs.List.Sorted.{IsPermutation};
 ghost use Rattle.jlr_machine.specs.Lookups.{with_resource};
 ghost use Rattle.jlr_machine.specs.declared.machine.ResourceState.TheVariants as state;
 ghost use Rattle.jlr_resource.specs.declared.place.Kept.TheVariants as kept;
-ghost use Rattle.jlr_resource.specs.Resources.{resources, resources_in, resource_in, state_in, in_state, ended};
-ghost use Rattle.jlr_resource.specs.Resources.{state_at, kept_at, kept_in, values, values_in, value_of, state_of};
+ghost use Rattle.jlr_resource.specs.Resources.{resources, resources_in, resource_in, state_in, resource_in_state};
+ghost use Rattle.jlr_resource.specs.Resources.{ended};
+ghost use Rattle.jlr_resource.specs.Resources.{resource_state_at, kept_at, kept_in, values, values_in, value_of};
+ghost use Rattle.jlr_resource.specs.Resources.{state_of};
 ghost use Rattle.jlr_resource.specs.Resources.{opening, changed, removed, with_held, with_kept, without_held};
 ghost use Rattle.jlr_resource.specs.Places.{held_by, AreRids};
 
@@ -77,7 +79,7 @@ impl<R> Table<R> {
 
     /// Where the resource at a Rid is, if there is one.
     pub fn state(&self, rid: Rid) -> Option<ResourceState>
-        ensures { result ≡ state_at self.now rid }
+        ensures { result ≡ resource_state_at self.now rid }
     {
         state(&self.places, rid)
     }
@@ -108,7 +110,7 @@ impl<R> Table<R> {
         ensures next { IfOk result (λ rid. (rid ≡ self.old.next) × (rid < 2 ^ 32)) }
         ensures free { IfOk result (λ rid. resource_in (resources self.old) rid ≡ None) }
         ensures held { IfOk result (λ rid. self.new.held ≡ opening self.old rid action) }
-        ensures state { IfOk result (λ rid. state_at self.new rid ≡ Some state.Opening) }
+        ensures state { IfOk result (λ rid. resource_state_at self.new rid ≡ Some state.Opening) }
         ensures others { IfOk result (λ rid. (other : ℕ) → other ≢ rid
             → kept_at self.new other ≡ kept_at self.old other) }
         ensures resources { IfOk result (λ rid. resources self.new
@@ -131,12 +133,12 @@ impl<R> Table<R> {
 
     /// The open ended well: the resource is Idle, and lies here.
     pub fn opened(&mut self, rid: Rid, resource: R)
-        requires { state_at self.old rid ≡ Some state.Opening }
+        requires { resource_state_at self.old rid ≡ Some state.Opening }
         ensures idle { self.new ≡ changed self.old rid (kept.Idle resource) }
         ensures lies_here { kept_at self.new rid ≡ Some (kept.Idle resource) }
-        ensures state { state_at self.new rid ≡ Some state.Idle }
+        ensures state { resource_state_at self.new rid ≡ Some state.Idle }
         ensures others { (other : ℕ) → other ≢ rid → kept_at self.new other ≡ kept_at self.old other }
-        ensures resources { resources self.new ≡ in_state (resources self.old) rid state.Idle }
+        ensures resources { resources self.new ≡ resource_in_state (resources self.old) rid state.Idle }
         ensures values { IsPermutation (resource ∷ values self.old) (values self.new) }
     {
         match exchange(&mut self.places, rid, Kept::Idle(resource)) {
@@ -148,12 +150,12 @@ impl<R> Table<R> {
 
     /// A call begins: the resource that was put in last for this Rid goes out.
     pub fn check_out(&mut self, rid: Rid) -> R
-        requires { state_at self.old rid ≡ Some state.Idle }
+        requires { resource_state_at self.old rid ≡ Some state.Idle }
         ensures put_in_last { kept_at self.old rid ≡ Some (kept.Idle result) }
         ensures out { self.new ≡ changed self.old rid kept.Out }
-        ensures state { state_at self.new rid ≡ Some state.Out }
+        ensures state { resource_state_at self.new rid ≡ Some state.Out }
         ensures others { (other : ℕ) → other ≢ rid → kept_at self.new other ≡ kept_at self.old other }
-        ensures resources { resources self.new ≡ in_state (resources self.old) rid state.Out }
+        ensures resources { resources self.new ≡ resource_in_state (resources self.old) rid state.Out }
         ensures values { IsPermutation (values self.old) (result ∷ values self.new) }
     {
         match exchange(&mut self.places, rid, Kept::Out) {
@@ -164,12 +166,12 @@ impl<R> Table<R> {
 
     /// The call has ended, well or not: the resource is Idle, and lies here again.
     pub fn check_in(&mut self, rid: Rid, returned: R)
-        requires { state_at self.old rid ≡ Some state.Out }
+        requires { resource_state_at self.old rid ≡ Some state.Out }
         ensures idle { self.new ≡ changed self.old rid (kept.Idle returned) }
         ensures lies_here { kept_at self.new rid ≡ Some (kept.Idle returned) }
-        ensures state { state_at self.new rid ≡ Some state.Idle }
+        ensures state { resource_state_at self.new rid ≡ Some state.Idle }
         ensures others { (other : ℕ) → other ≢ rid → kept_at self.new other ≡ kept_at self.old other }
-        ensures resources { resources self.new ≡ in_state (resources self.old) rid state.Idle }
+        ensures resources { resources self.new ≡ resource_in_state (resources self.old) rid state.Idle }
         ensures values { IsPermutation (returned ∷ values self.old) (values self.new) }
     {
         match exchange(&mut self.places, rid, Kept::Idle(returned)) {
@@ -181,12 +183,12 @@ impl<R> Table<R> {
 
     /// Its cleaning action was taken up: the resource that was put in last for this Rid goes out to be finished.
     pub fn take_for_close(&mut self, rid: Rid) -> R
-        requires { state_at self.old rid ≡ Some state.Idle }
+        requires { resource_state_at self.old rid ≡ Some state.Idle }
         ensures put_in_last { kept_at self.old rid ≡ Some (kept.Idle result) }
         ensures closing { self.new ≡ changed self.old rid kept.Closing }
-        ensures state { state_at self.new rid ≡ Some state.Closing }
+        ensures state { resource_state_at self.new rid ≡ Some state.Closing }
         ensures others { (other : ℕ) → other ≢ rid → kept_at self.new other ≡ kept_at self.old other }
-        ensures resources { resources self.new ≡ in_state (resources self.old) rid state.Closing }
+        ensures resources { resources self.new ≡ resource_in_state (resources self.old) rid state.Closing }
         ensures values { IsPermutation (values self.old) (result ∷ values self.new) }
     {
         match exchange(&mut self.places, rid, Kept::Closing) {
@@ -198,9 +200,10 @@ impl<R> Table<R> {
     /// The resource has ended: it was finished, or its open failed. Its Rid is free, and there is room for the next
     /// one.
     pub fn closed(&mut self, rid: Rid)
-        requires { (state_at self.old rid ≡ Some state.Closing) ⊎ (state_at self.old rid ≡ Some state.Opening) }
+        requires { (resource_state_at self.old rid ≡ Some state.Closing) ⊎ (resource_state_at self.old rid
+            ≡ Some state.Opening) }
         ensures gone { self.new ≡ removed self.old rid }
-        ensures state { state_at self.new rid ≡ None }
+        ensures state { resource_state_at self.new rid ≡ None }
         ensures others { (other : ℕ) → other ≢ rid → kept_at self.new other ≡ kept_at self.old other }
         ensures resources { resources self.new ≡ ended (resources self.old) rid }
         ensures values { values self.new ≡ values self.old }
@@ -319,7 +322,7 @@ fn exchange<R>(places: &mut Slab<Place<R>>, rid: Rid, kept: Kept<R>) -> Kept<R>
         → kept_in (held_by places.new) other ≡ kept_in (held_by places.old) other }
     ensures held { held_by places.new ≡ with_kept (held_by places.old) rid kept }
     ensures resources { resources_in (held_by places.new)
-        ≡ in_state (resources_in (held_by places.old)) rid (state_of kept) }
+        ≡ resource_in_state (resources_in (held_by places.old)) rid (state_of kept) }
     ensures values { IsPermutation (option_to_list (value_of kept) ++ values_in (held_by places.old))
         (option_to_list (value_of result) ++ values_in (held_by places.new)) }
     ensures room { places.new.capacity ≡ places.old.capacity }

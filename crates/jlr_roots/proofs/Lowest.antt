@@ -7,7 +7,7 @@ use Rattle.std.proofs.lemmas.Bool.{cases_lt}
 use Rattle.std.proofs.lemmas.List.{take_all}
 use Rattle.std.proofs.lemmas.List.Sums.{sum_by-cons}
 use Rattle.jlr_machine.specs.Objects.{occupied, first_free}
-use Rattle.jlr_roots.specs.HandleTable.{IsHandleTable, has_room, lowest_free}
+use Rattle.jlr_roots.specs.HandleTable.{IsHandleTable, has_handle_room, lowest_free}
 
 -- a place is taken
 abbrev pub is_taken : Option ℕ → Bool
@@ -39,7 +39,7 @@ all_taken (Some s ∷ places) h = omega (arith, one_more s places, all_taken pla
 
 -- what a search behind null says of the handles
 pub record Finds (handles : List (Option ℕ)) (found : Option ℕ) : Type 0 where
-  pub room : is_some found ≡ has_room handles
+  pub room : is_some found ≡ has_handle_room handles
   pub lowest : (i : ℕ) → found ≡ Some i → (i + 1 ≡ lowest_free handles) × (i < 250)
 
 finds_none : (rest : List (Option ℕ)) → length rest ≡ 250 → length rest ≤ prefix_len is_taken rest → Finds (None ∷ rest) None

@@ -13,7 +13,7 @@ use Rattle.jlr_machine.specs.declared.machine.Session.{Session}
 use Rattle.jlr_machine.specs.Objects.{Table, at}
 use Rattle.jlr_roots.specs.declared.member.Member.{Member}
 use Rattle.jlr_roots.specs.Sessions.{session_in, sessions_in, AreMembers, absent}
-use Rattle.jlr_roots.specs.Walk.{slots_of, slots_held, slot_at, root_at, walked}
+use Rattle.jlr_roots.specs.Walk.{slots_of_session, slots_held, slot_at, root_at, walked}
 use Rattle.jlr_roots.proofs.Members.{at-sessions_in, within_members}
 
 -- each session has 251 handles
@@ -79,13 +79,13 @@ walked-row mutators tables k (suc j) within =
 
 slots_held-append : (xs ys : Table Session) → slots_held (xs ++ ys) ≡ slots_held xs ++ slots_held ys
 slots_held-append xs ys =
-    rw (filter_map-append (λ s. s) xs ys, flat_map-append slots_of (filter_map (λ s. s) xs) (filter_map (λ s. s) ys)) refl
+    rw (filter_map-append (λ s. s) xs ys, flat_map-append slots_of_session (filter_map (λ s. s) xs) (filter_map (λ s. s) ys)) refl
 
 -- the handles of a mutator, and then its fence
 slots_held-one : (o : Option Session) → ((s : Session) → o ≡ Some s → length s.handles ≡ 251) → slots_held (o ∷ []) ≡ held_below 251 o
     ++ option_to_list (held_in 251 o)
 slots_held-one None table = refl
-slots_held-one (Some s) table = rw (take_all 251 s.handles (omega (arith, table s refl))) (append-nil (slots_of s))
+slots_held-one (Some s) table = rw (take_all 251 s.handles (omega (arith, table s refl))) (append-nil (slots_of_session s))
 
 whole_row : (mutators : Table Session) → HaveTables mutators → (k : ℕ) → walked mutators (252 * k + 252) ≡ walked mutators (252 * k)
     ++ slots_held (at mutators k ∷ [])

@@ -8,8 +8,8 @@ pub record IsHandleTable (handles : Table ℕ) : Type 0 where
   pub null : at handles 0 ≡ None
 
 -- fewer than 250 handles are in use
-abbrev pub has_room : Table ℕ → Bool
-has_room handles = nat_lt (occupied handles) 250
+abbrev pub has_handle_room : Table ℕ → Bool
+has_handle_room handles = nat_lt (occupied handles) 250
 
 -- the lowest free number
 abbrev pub lowest_free : Table ℕ → ℕ

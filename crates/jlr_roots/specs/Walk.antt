@@ -6,12 +6,12 @@ use Rattle.jlr_machine.specs.declared.machine.Session.{Session}
 use Rattle.jlr_machine.specs.Objects.{Table, at}
 
 -- what a session holds by its handles and its fence
-abbrev pub slots_of : Session → List ℕ
-slots_of s = filter_map (λ h. h) s.handles ++ option_to_list s.fence
+abbrev pub slots_of_session : Session → List ℕ
+slots_of_session s = filter_map (λ h. h) s.handles ++ option_to_list s.fence
 
 -- what all mutators hold
 abbrev pub slots_held : Table Session → List ℕ
-slots_held mutators = flat_map slots_of (filter_map (λ s. s) mutators)
+slots_held mutators = flat_map slots_of_session (filter_map (λ s. s) mutators)
 
 -- the slot at a place of a session
 abbrev pub slot_at : ℕ → Session → Option ℕ

@@ -3,7 +3,7 @@ ghost use Rattle.std.specs.Prelude.{◌≡◌, ◌+◌, ◌<◌, ◌≤◌, IfOk
 ghost use Rattle.std.specs.Prelude.{length, position, replicate};
 ghost use Rattle.jlr_machine.specs.Objects.{at, empty_at, set_at};
 ghost use Rattle.jlr_machine.specs.Calls.{no_handles};
-ghost use Rattle.jlr_roots.specs.HandleTable.{IsHandleTable, has_room, lowest_free};
+ghost use Rattle.jlr_roots.specs.HandleTable.{IsHandleTable, has_handle_room, lowest_free};
 
 use jlr_machine::copy::copy_slice;
 use jlr_machine::table::Table;
@@ -59,14 +59,14 @@ impl Handles {
     }
 
     pub(crate) fn has_room(&self) -> bool
-        ensures { result ≡ has_room self.now }
+        ensures { result ≡ has_handle_room self.now }
     {
         first_free(&self.slots).is_some()
     }
 
     /// Holds a slot by the lowest free handle, if there is one.
     pub(crate) fn put(&mut self, slot: Slot) -> Option<Handle>
-        ensures room { is_some result ≡ has_room self.old }
+        ensures room { is_some result ≡ has_handle_room self.old }
         ensures none { IfNone result (self.new ≡ self.old) }
         ensures lowest { IfSome result (λ handle. handle ≡ lowest_free self.old) }
         ensures held { IfSome result (λ handle. self.new ≡ set_at self.old handle slot) }
@@ -101,7 +101,7 @@ fn empty(places: &mut [Option<Slot>])
 /// The lowest free handle.
 fn first_free(places: &[Option<Slot>]) -> Option<usize>
     requires { IsHandleTable places.now }
-    ensures room { is_some result ≡ has_room places.now }
+    ensures room { is_some result ≡ has_handle_room places.now }
     ensures lowest { IfSome result (λ number. (number ≡ lowest_free places.now) × (1 ≤ number) × (number < 251)) }
 {
     match first_none(&places[1..]) {

@@ -4,8 +4,8 @@ ghost use Rattle.std.specs.Prelude.{option_map};
 ghost use Rattle.jlr_machine.specs.Objects.{at, some_and};
 ghost use Rattle.jlr_machine.specs.Calls.{fresh_session};
 ghost use Rattle.jlr_machine.specs.Refusals.{is_in_flight};
-ghost use Rattle.jlr_roots.specs.HandleTable.{IsHandleTable, has_room};
-ghost use Rattle.jlr_roots.specs.Sessions.{absent, lowest_in, session_in, with_call, with_slot, without_handle};
+ghost use Rattle.jlr_roots.specs.HandleTable.{IsHandleTable, has_handle_room};
+ghost use Rattle.jlr_roots.specs.Sessions.{absent, lowest_in, session_in, session_in_call, with_slot, without_handle};
 ghost use Rattle.jlr_roots.specs.Walk.{slot_at};
 
 use crate::handles::Handles;
@@ -85,14 +85,14 @@ impl Member {
     }
 
     pub(crate) fn has_free_handle(&self) -> bool
-        ensures { result ≡ some_and (λ s. has_room s.handles) (session_in self.now) }
+        ensures { result ≡ some_and (λ s. has_handle_room s.handles) (session_in self.now) }
     {
         self.joined && self.handles.has_room()
     }
 
     pub(crate) fn put_handle(&mut self, slot: Slot) -> Option<Handle>
         requires { IsTrue (is_some (session_in self.old)) }
-        ensures room { is_some result ≡ some_and (λ s. has_room s.handles) (session_in self.old) }
+        ensures room { is_some result ≡ some_and (λ s. has_handle_room s.handles) (session_in self.old) }
         ensures none { IfNone result (self.new ≡ self.old) }
         ensures lowest { IfSome result (λ handle. handle ≡ lowest_in (session_in self.old)) }
         ensures held { IfSome result (λ handle. session_in self.new
@@ -129,7 +129,7 @@ impl Member {
     }
 
     pub(crate) fn set_call(&mut self, fence: Option<Slot>, call: Call)
-        ensures session { session_in self.new ≡ option_map (with_call fence call) (session_in self.old) }
+        ensures session { session_in self.new ≡ option_map (session_in_call fence call) (session_in self.old) }
         ensures handles { self.new.handles ≡ self.old.handles }
     {
         self.fence = fence;

@@ -4,7 +4,8 @@ ghost use Rattle.std.specs.Prelude.{option_and_then, option_map, replicate};
 ghost use Rattle.jlr_machine.specs.declared.machine.Call.TheVariants.{Free};
 ghost use Rattle.jlr_machine.specs.Objects.{at, change_at, empty_at, set_at};
 ghost use Rattle.jlr_machine.specs.Calls.{fresh_session};
-ghost use Rattle.jlr_roots.specs.Sessions.{free_handle, has_call, has_free_handle, sessions_in, slot_held, with_call};
+ghost use Rattle.jlr_roots.specs.Sessions.{lowest_handle, session_has_call, session_has_free_handle, sessions_in};
+ghost use Rattle.jlr_roots.specs.Sessions.{slot_held, session_in_call};
 ghost use Rattle.jlr_roots.specs.Sessions.{with_slot, without_handle};
 ghost use Rattle.jlr_roots.specs.Walk.{root_at, slot_at, slots_held, walked};
 
@@ -87,7 +88,7 @@ impl Roots {
 
     /// Whether a mutator is joined and has a free handle.
     pub fn has_free_handle(&self, mutator: Mutator) -> bool
-        ensures { result ≡ has_free_handle self.now mutator }
+        ensures { result ≡ session_has_free_handle self.now mutator }
     {
         match self.members.get(mutator.number() as usize) {
             Some(member) => member.has_free_handle(),
@@ -98,9 +99,9 @@ impl Roots {
     /// A mutator holds a slot by its lowest free handle, if fewer than 250 are in use.
     pub fn put_handle(&mut self, mutator: Mutator, slot: Slot) -> Option<Handle>
         requires { IsTrue (is_some (at self.old mutator)) }
-        ensures room { is_some result ≡ has_free_handle self.old mutator }
+        ensures room { is_some result ≡ session_has_free_handle self.old mutator }
         ensures none { IfNone result (self.new ≡ self.old) }
-        ensures lowest { IfSome result (λ handle. handle ≡ free_handle self.old mutator) }
+        ensures lowest { IfSome result (λ handle. handle ≡ lowest_handle self.old mutator) }
         ensures held { IfSome result (λ handle. self.new ≡ change_at self.old mutator (with_slot handle slot)) }
     {
         let member = &mut self.members[mutator.number() as usize];
@@ -145,7 +146,7 @@ impl Roots {
 
     /// Whether a mutator is joined and has a call in flight.
     pub fn has_call(&self, mutator: Mutator) -> bool
-        ensures { result ≡ has_call self.now mutator }
+        ensures { result ≡ session_has_call self.now mutator }
     {
         match self.members.get(mutator.number() as usize) {
             Some(member) => member.has_call(),
@@ -156,7 +157,7 @@ impl Roots {
     /// A mutator begins a call, which holds the slot of its fence.
     pub fn begin_call(&mut self, mutator: Mutator, fence: Option<Slot>, call: Call)
         requires { IsTrue (is_some (at self.old mutator)) }
-        ensures { self.new ≡ change_at self.old mutator (with_call fence call) }
+        ensures { self.new ≡ change_at self.old mutator (session_in_call fence call) }
     {
         let member = &mut self.members[mutator.number() as usize];
         member.set_call(fence, call);
@@ -165,7 +166,7 @@ impl Roots {
     /// A mutator's call ends, and its fence with it.
     pub fn end_call(&mut self, mutator: Mutator)
         requires { IsTrue (is_some (at self.old mutator)) }
-        ensures { self.new ≡ change_at self.old mutator (with_call None Free) }
+        ensures { self.new ≡ change_at self.old mutator (session_in_call None Free) }
     {
         self.begin_call(mutator, None, Call::Free);
     }

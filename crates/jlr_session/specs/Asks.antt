@@ -43,12 +43,12 @@ said_by (Answered answer resource) = answer
 said_by (Marked progress) = no_answer
 
 -- room was made for a resource
-abbrev pub prepared_in : Answer → Result (Unit {0}) Answer
-prepared_in (answer.Prepared rid) = Ok tt
-prepared_in answer = Err answer
+abbrev pub room_prepared : Answer → Result (Unit {0}) Answer
+room_prepared (answer.Prepared rid) = Ok tt
+room_prepared answer = Err answer
 
 abbrev pub prepared_by : {R : Type 0} → Reply R → Result (Unit {0}) Answer
-prepared_by reply = prepared_in (said_by reply)
+prepared_by reply = room_prepared (said_by reply)
 
 -- a resource was handed out for a call
 abbrev pub out_with : {R : Type 0} → Answer → Option R → Result R Answer

@@ -21,7 +21,7 @@ use Rattle.jlr_machine.specs.Refusals.{gotten}
 use Rattle.jlr_machine.specs.Calls.{fence_of}
 use Rattle.jlr_machine.specs.WellFormed.{IsWellFormed, IsObjectAt}
 use Rattle.jlr_types.specs.declared.RefKind.TheVariants.{Phantom}
-use Rattle.jlr_roots.specs.Walk.{slots_held, slots_of}
+use Rattle.jlr_roots.specs.Walk.{slots_held, slots_of_session}
 use Rattle.jlr_roots.specs.Naming.{named}
 use Rattle.jlr_laws.proofs.Sets.{nothing, in_front, in_rest}
 use Rattle.jlr_laws.proofs.Clearing.{in_append, in_left}
@@ -44,7 +44,7 @@ has_session (Some s) f y e = (s, refl, e)
 pub named_held : (m : Machine) (k h y : ℕ) → slot_named m k h ≡ Some y → y ∈ slots_held m.mutators
 named_held m k h y e =
     let s = has_session (at m.mutators k) (λ s. at s.handles h) y e in
-    from_sessions slots_of m.mutators k s.0 y s.1 (in_left y (filter_map (λ h. h) s.0.handles) (option_to_list s.0.fence)
+    from_sessions slots_of_session m.mutators k s.0 y s.1 (in_left y (filter_map (λ h. h) s.0.handles) (option_to_list s.0.fence)
     (from_places s.0.handles h y s.2))
 
 bound_named : (names : List Binding) (name : List ℕ) (y : ℕ) → slot_bound names name ≡ Some y → y ∈ named names

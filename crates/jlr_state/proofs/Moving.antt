@@ -13,7 +13,7 @@ use Rattle.jlr_machine.specs.declared.machine.ResourceState.TheVariants as state
 use Rattle.jlr_laws.proofs.Allowed.{some_and_gives}
 use Rattle.jlr_resource.specs.declared.place.Kept.{Kept}
 use Rattle.jlr_resource.specs.declared.place.Kept.TheVariants as kept
-use Rattle.jlr_resource.specs.Resources.{HeldResource, Resources, kept_at, kept_in, removed, state_at, state_of, value_of, values}
+use Rattle.jlr_resource.specs.Resources.{HeldResource, Resources, kept_at, kept_in, removed, resource_state_at, state_of, value_of, values}
 use Rattle.jlr_resource.specs.Resources.{values_in}
 use Rattle.jlr_resource.specs.Resources.{with_kept, without_held}
 use Rattle.jlr_resource.proofs.Listed.{state_found, values-cons}
@@ -39,7 +39,7 @@ module _ {R : Type 0} where
   found_not_idle (Some kept.Closing) s e other = refl
 
   -- a value lies only where the resource is Idle
-  pub none_lies : (t : Resources R) (rid : ℕ) (s : ResourceState) → state_at t rid ≡ Some s → s ≢ state.Idle → lies_at t rid ≡ None
+  pub none_lies : (t : Resources R) (rid : ℕ) (s : ResourceState) → resource_state_at t rid ≡ Some s → s ≢ state.Idle → lies_at t rid ≡ None
   none_lies t rid s e other = found_not_idle (kept_at t rid) s (sym (state_found t.held rid) ∙ e) other
 
   found_none : (k : Option (Kept R)) → option_map state_of k ≡ None → option_and_then value_of k ≡ None
@@ -47,7 +47,7 @@ module _ {R : Type 0} where
   found_none (Some k) e = absurd (cc e)
 
   -- and none where there is no resource
-  pub none_there : (t : Resources R) (rid : ℕ) → state_at t rid ≡ None → lies_at t rid ≡ None
+  pub none_there : (t : Resources R) (rid : ℕ) → resource_state_at t rid ≡ None → lies_at t rid ≡ None
   none_there t rid e = found_none (kept_at t rid) (sym (state_found t.held rid) ∙ e)
 
   -- ---- Calls that say where the others are
@@ -59,7 +59,7 @@ module _ {R : Type 0} where
       → lies_at new other ≡ lies_at old other
   others_lie old new rid others other apart = ap (option_and_then value_of) (others other apart)
 
-  pub put_in : (old new : Resources R) (rid : ℕ) (s : ResourceState) (value : R) → state_at old rid ≡ Some s → s ≢ state.Idle
+  pub put_in : (old new : Resources R) (rid : ℕ) (s : ResourceState) (value : R) → resource_state_at old rid ≡ Some s → s ≢ state.Idle
       → kept_at new rid ≡ Some (kept.Idle value) → KeepsOthers old new rid → Moves (Some value) old None new
   put_in old new rid s value was away here others =
       inr (
@@ -73,7 +73,7 @@ module _ {R : Type 0} where
       )
 
   pub taken_out : (old new : Resources R) (rid : ℕ) (s : ResourceState) (value : R) → kept_at old rid ≡ Some (kept.Idle value)
-      → state_at new rid ≡ Some s → s ≢ state.Idle → KeepsOthers old new rid → Moves None old (Some value) new
+      → resource_state_at new rid ≡ Some s → s ≢ state.Idle → KeepsOthers old new rid → Moves None old (Some value) new
   taken_out old new rid s value was now away others =
       inr (
         rid,

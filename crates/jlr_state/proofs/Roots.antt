@@ -6,7 +6,7 @@ use Rattle.jlr_machine.specs.Objects.{◌∈◌}
 use Rattle.jlr_machine.specs.Edges.{active_cleanables}
 use Rattle.jlr_machine.specs.WellFormed.{IsWellFormed}
 use Rattle.jlr_roots.specs.Naming.{named}
-use Rattle.jlr_roots.specs.Walk.{slots_held, slots_of}
+use Rattle.jlr_roots.specs.Walk.{slots_held, slots_of_session}
 use Rattle.jlr_laws.proofs.Sets.{in_front}
 use Rattle.jlr_laws.proofs.Clearing.{in_left, in_right}
 use Rattle.jlr_laws.proofs.Frames.{root_gives, from_sessions, from_places, IsRoot}
@@ -49,11 +49,11 @@ module _ {R : Type 0} (c : Cleanings R) (g : Graph) (cycle : Bool) where
 
   is_held : (s : ℕ) → IsRoot m s → s ∈ held g
   is_held s (by_handle k h session e f) =
-      by_session s (from_sessions slots_of g.mutators k session s e
+      by_session s (from_sessions slots_of_session g.mutators k session s e
       (in_left s (filter_map (λ h. h) session.handles) (option_to_list session.fence) (from_places session.handles h s f)))
   is_held s (fencing k session e f) =
       let there : s ∈ option_to_list session.fence = subst (λ o. s ∈ option_to_list o) (sym f) (in_front s s [] refl) in
-      by_session s (from_sessions slots_of g.mutators k session s e
+      by_session s (from_sessions slots_of_session g.mutators k session s e
       (in_right s (filter_map (λ h. h) session.handles) (option_to_list session.fence) there))
   is_held s (by_binding h) = by_name s h
   is_held s (waiting h) = by_pending s h

@@ -29,7 +29,7 @@ use Rattle.jlr_laws.proofs.Keyed.{all_found}
 use Rattle.jlr_laws.proofs.KeepsTakeUps.{one_less}
 use Rattle.jlr_barrier.specs.Graphs.{Graph, in_machine}
 use Rattle.jlr_refs.specs.Parts.{front_of, front_spent}
-use Rattle.jlr_cleaner.specs.Cleanings.{Cleanings, HasWork, after_register, machine_with as with_cleanings}
+use Rattle.jlr_cleaner.specs.Cleanings.{Cleanings, HasWork, after_register, machine_of_cleanings as with_cleanings}
 use Rattle.jlr_state.specs.State.{frame, machine_with}
 use Rattle.jlr_state.specs.TakeUps.{IsFreeMutator}
 

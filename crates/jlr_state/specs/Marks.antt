@@ -15,7 +15,7 @@ use Rattle.jlr_soft.specs.declared.policy.Mode.TheVariants.{Policy}
 use Rattle.jlr_marks.specs.Marking.{Marking, Blackened, IsMarked, marked}
 use Rattle.jlr_barrier.specs.Graphs.{Clock}
 use Rattle.jlr_marker.specs.Following.{keeps}
-use Rattle.jlr_marker.specs.Spending.{spent}
+use Rattle.jlr_marker.specs.Spending.{ticks_spent}
 use Rattle.jlr_marker.specs.Marks.{Blackens, MarksOn}
 use Rattle.jlr_event.specs.declared.event.Event.{Event}
 use Rattle.jlr_event.specs.declared.event.Event.TheVariants.{Mark}
@@ -74,7 +74,7 @@ blackened old new = (marked new + length old.grey) - (marked old + length new.gr
 
 -- how many ticks were spent between these marks
 abbrev pub ticks_between : Heap → Marking → Marking → ℕ
-ticks_between heap old new = spent heap new - spent heap old
+ticks_between heap old new = ticks_spent heap new - ticks_spent heap old
 
 -- In an open cycle it ticks once for each part of an object that it follows, by the soft policy, and sweeps nothing.
 -- Without one it is idle, the marks stay as they are, and so many condemned cells become free, or all where there are

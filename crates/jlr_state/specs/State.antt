@@ -20,7 +20,7 @@ use Rattle.jlr_machine.specs.Refusals.{given, refusal}
 use Rattle.jlr_machine.specs.Calls.{reply, after}
 use Rattle.jlr_machine.specs.Run.{IsLegal, done, empty}
 use Rattle.jlr_histories.specs.CycleLaws.{with_seen}
-use Rattle.jlr_cleaner.specs.Cleanings.{Cleanings, machine_with as with_cleanings}
+use Rattle.jlr_cleaner.specs.Cleanings.{Cleanings, machine_of_cleanings as with_cleanings}
 
 -- what a core keeps beside its heap, in a machine that is empty otherwise: its jobs and what became of others, its
 -- files and sockets, and whether a cycle is open

@@ -11,7 +11,7 @@ ghost use Rattle.jlr_machine.specs.Refusals.{is_cleanable, is_guard, is_out_stat
 ghost use Rattle.jlr_machine.specs.Calls.{call_answer, new_handle, opened};
 ghost use Rattle.jlr_machine.specs.Run.{no_choice};
 ghost use Rattle.jlr_machine.specs.WellFormed.{IsWellFormed};
-ghost use Rattle.jlr_resource.specs.Resources.{state_at};
+ghost use Rattle.jlr_resource.specs.Resources.{resource_state_at};
 ghost use Rattle.jlr_event.specs.Events.{answer_in, resource_of_reply, outcome_of, resource_of};
 ghost use Rattle.jlr_state.specs.Events.{StepsMachine};
 ghost use Rattle.jlr_state.specs.Flows.{Conserves, GoesOut, Moves};
@@ -250,7 +250,7 @@ impl<R> State<R> {
         ensures { MatchResult result
             (λ held. (refusal (machine_of self.now) (Ask.CheckOut by guard) ≡ None)
             × IsGuardNamed (machine_of self.now) by guard held × IsFreeMutator (machine_of self.now) by
-            × (state_at self.now.cleaner.table held.guard.rid ≡ Some state.Idle))
+            × (resource_state_at self.now.cleaner.table held.guard.rid ≡ Some state.Idle))
             (λ r. refusal (machine_of self.now) (Ask.CheckOut by guard) ≡ Some r) }
     {
         self.check_session(by)?;

@@ -11,7 +11,7 @@ use Rattle.jlr_soft.specs.declared.policy.Mode.TheVariants.{ClearAll}
 use Rattle.jlr_machine.specs.Choices.{Choosing, kept_by, pended_by}
 use Rattle.jlr_machine.specs.Collection.{IsFullClearing}
 use Rattle.jlr_machine.specs.WellFormed.{IsWellFormed}
-use Rattle.jlr_roots.specs.Walk.{slots_held, slots_of}
+use Rattle.jlr_roots.specs.Walk.{slots_held, slots_of_session}
 use Rattle.jlr_laws.specs.Laws.{IsLeastMarking, IsFullMarking as IsMarkedBy, IsWithinHeap}
 use Rattle.jlr_laws.proofs.Clearing.{edge_gives, edge_from, in_append, in_option}
 use Rattle.jlr_laws.proofs.Frames.{in_sessions, in_places, no_some, root_from}
@@ -39,7 +39,7 @@ module _ (f : Machine) (g : Graph) (rooted : IsRooted f g) where
 
   session_root : (s : ℕ) → s ∈ slots_held g.mutators → s ∈ roots m
   session_root s a =
-      let r = in_sessions slots_of g.mutators s a in
+      let r = in_sessions slots_of_session g.mutators s a in
       elim (in_append s (filter_map (λ h. h) r.1.handles) (option_to_list r.1.fence) r.3) [
         | inl by ↦ let p = in_places r.1.handles s by in root_from m s (by_handle r.0 p.0 r.1 r.2 p.1)
         | inr by ↦ root_from m s (fencing r.0 r.1 r.2 (in_option s r.1.fence by))

@@ -7,7 +7,7 @@ ghost use Rattle.jlr_barrier.specs.Graphs.{held};
 ghost use Rattle.jlr_marks.specs.Marking.{IsMarked};
 ghost use Rattle.jlr_barrier.specs.Snapshots.{RefersTo};
 ghost use Rattle.jlr_marker.specs.Following.{IsFollowed, keeps};
-ghost use Rattle.jlr_marker.specs.Spending.{spent, ticks_for};
+ghost use Rattle.jlr_marker.specs.Spending.{ticks_spent, ticks_for};
 
 use jlr_barrier::Heap;
 use jlr_marker::{begin, follow};
@@ -30,7 +30,7 @@ pub(crate) fn mark(heap: &mut Heap, policy: &Policy, meter: &mut Meter)
     ensures objects { (x : ℕ) → IsMarked heap.new.marking x → IsTrue (is_some (at heap.old.graph.objects x)) }
     ensures no_grey { heap.new.marking.grey ≡ [] }
     ensures long { length heap.new.marking.bits ≡ length heap.old.graph.objects }
-    ensures once { meter.new ≡ meter.old + spent heap.old.graph.objects heap.new.marking }
+    ensures once { meter.new ≡ meter.old + ticks_spent heap.old.graph.objects heap.new.marking }
     ensures ticks { meter.new ≤ meter.old + ticks_for heap.old.graph.objects }
 {
     begin(heap);

@@ -12,11 +12,12 @@ use Rattle.jlr_machine.specs.declared.ask.Ask.TheVariants.{Full, Stat, Notes, Fa
 use Rattle.jlr_trace_fields.specs.declared.fault.Fault.TheVariants.{Range}
 use Rattle.jlr_trace_fields.specs.declared.version.Version.{Version}
 use Rattle.jlr_trace_fields.specs.declared.version.Version.TheVariants.{One, Two}
-use Rattle.jlr_trace_fields.specs.Reading.{is_name_byte}
+use Rattle.jlr_trace_fields.specs.Reading.{is_name_letter}
 use Rattle.jlr_trace_fields.specs.Items.{items_at}
 use Rattle.jlr_trace_fields.specs.Tables.{ref_kinds, faults}
-use Rattle.jlr_trace_entries.specs.Asks.{outcomes, modes, kind_read, layout_read, call_outcome_behind, call_outcome_read, field_read, tags}
-use Rattle.jlr_trace_entries.specs.Asks.{array_read, body_of, ask_read}
+use Rattle.jlr_trace_entries.specs.Asks.{outcomes_by_number, modes, kind_read, layout_read, call_outcome_behind, call_outcome_read}
+use Rattle.jlr_trace_entries.specs.Asks.{field_read, ask_tags}
+use Rattle.jlr_trace_entries.specs.Asks.{array_read, ask_body, ask_read}
 use Rattle.jlr_trace.specs.Steady.{IsSteady}
 use Rattle.jlr_trace.proofs.Steps.{◌▸◌, made, never, then_read, either, one, two, three, four}
 use Rattle.jlr_trace.proofs.Fields.{byte, number, number_within, signed, byte_within, picked, picked_then, text, data_text}
@@ -51,7 +52,7 @@ array One = record { still = never.still }
 array Two = record { still = (two byte (number_within w16 1 4096) Array).still }
 
 -- what stands behind each number of an ask, in the order of the table
-bodies : (version : Version) → AllByRecursion (λ tag. IsSteady (body_of version tag)) tags
+bodies : (version : Version) → AllByRecursion (λ tag. IsSteady (ask_body version tag)) ask_tags
 bodies version =
     record { still = (one byte Join).still }
     ▸ record { still = (one byte Leave).still }
@@ -76,14 +77,14 @@ bodies version =
     ▸ record { still = (four byte byte byte (number w32) Register).still }
     ▸ record { still = (two byte byte Clean).still }
     ▸ record { still = (one byte Prepare).still }
-    ▸ record { still = (two byte (picked 0 outcomes) Opened).still }
+    ▸ record { still = (two byte (picked 0 outcomes_by_number) Opened).still }
     ▸ record { still = (two byte byte CheckOut).still }
     ▸ record { still = (two byte call_outcome CheckIn).still }
     ▸ record { still = (two byte byte Close).still }
-    ▸ record { still = (three byte (number w64) (picked 0 outcomes) Finish).still }
-    ▸ record { still = (three byte (text 1 32 is_name_byte) byte Bind).still }
-    ▸ record { still = (two byte (text 1 32 is_name_byte) Find).still }
-    ▸ record { still = (two byte (text 1 32 is_name_byte) Unbind).still }
+    ▸ record { still = (three byte (number w64) (picked 0 outcomes_by_number) Finish).still }
+    ▸ record { still = (three byte (text 1 32 is_name_letter) byte Bind).still }
+    ▸ record { still = (two byte (text 1 32 is_name_letter) Find).still }
+    ▸ record { still = (two byte (text 1 32 is_name_letter) Unbind).still }
     ▸ record { still = (one byte Names).still }
     ▸ record { still = (two byte (picked 0 modes) Full).still }
     ▸ record { still = (one byte Stat).still }
@@ -99,4 +100,4 @@ bodies version =
 
 pub ask : (version : Version) → IsSteady (ask_read version)
 unfolding ask_read
-ask version = picked_then 0 tags (body_of version) (bodies version)
+ask version = picked_then 0 ask_tags (ask_body version) (bodies version)

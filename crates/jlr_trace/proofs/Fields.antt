@@ -10,7 +10,7 @@ use Rattle.jlr_trace_fields.specs.declared.fault.Fault.TheVariants.{Short, Range
 use Rattle.jlr_trace_fields.specs.Spelling.{no_slot}
 use Rattle.jlr_trace_fields.specs.Reading.{Reader, ◌>>=◌, byte_at, byte_within_at, flag_at, option_at, number_at, number_within_at}
 use Rattle.jlr_trace_fields.specs.Reading.{picked_at}
-use Rattle.jlr_trace_fields.specs.Reading.{value_at, text_at, bytes_at, taken_at, signed_at}
+use Rattle.jlr_trace_fields.specs.Reading.{value_by_number, text_at, bytes_at, taken_at, signed_at}
 use Rattle.jlr_trace.specs.Steady.{StillReads, IsSteady}
 use Rattle.jlr_trace.proofs.Steps.{made, never, then_read, either, one}
 
@@ -67,13 +67,13 @@ option = then_read (number w32) (λ n bytes. cond (nat_eq n no_slot) (Ok (None, 
 
 -- ---- Values of a table
 
-value : {A : Type 0} (o : Option A) → IsSteady (value_at o)
+value : {A : Type 0} (o : Option A) → IsSteady (value_by_number o)
 value None = never
 value (Some x) = made x
 
 pub picked : {A : Type 0} (first : ℕ) (table : List A) → IsSteady (picked_at first table)
 unfolding picked_at
-picked first table = then_read byte (λ b bytes. cond (ltb b first) (Err Range) (value_at (slice_get table (b - first)) bytes))
+picked first table = then_read byte (λ b bytes. cond (ltb b first) (Err Range) (value_by_number (slice_get table (b - first)) bytes))
     (λ b. either (ltb b first) never (value (slice_get table (b - first))))
 
 -- each value of a table is of use, so the one that is picked is
@@ -83,7 +83,7 @@ member P (y ∷ table) each zero x at = let same : y ≡ x = cc in subst P same 
 member P (y ∷ table) each (suc k) x at = member P table each.1 k x at
 
 picked_or_not : {A B : Type 0} (low : Bool) (o : Option A) (then : A → Reader B) → ((x : A) → o ≡ Some x → IsSteady (then x))
-    → IsSteady (λ bytes. cond low (Err Range) (value_at o bytes) >>= λ v. then v.0 v.1)
+    → IsSteady (λ bytes. cond low (Err Range) (value_by_number o bytes) >>= λ v. then v.0 v.1)
 picked_or_not true o then steady = record { still = λ bytes more. refl }
 picked_or_not false None then steady = record { still = λ bytes more. refl }
 picked_or_not false (Some x) then steady = record { still = (steady x refl).still }

@@ -24,7 +24,8 @@ use Rattle.jlr_trace_fields.specs.Records.{PlacedFits}
 use Rattle.jlr_trace.specs.declared.file.TraceFile.{TraceFile}
 use Rattle.jlr_trace.specs.Files.{image_of}
 use Rattle.jlr_machine.specs.declared.entry.Entry.{Entry}
-use Rattle.jlr_trace_entries.specs.Images.{listed_from, placed, held, session_text, SessionFits, ImageFits, HasShape, HasPlaces, image_text}
+use Rattle.jlr_trace_entries.specs.Images.{listed_from, placed, handle_held, session_text, SessionFits, ImageFits, HasShape, HasPlaces}
+use Rattle.jlr_trace_entries.specs.Images.{image_text}
 use Rattle.jlr_trace.specs.Ranges.{SeatRange, SessionRange, MachineRange, LimitsInRange}
 use Rattle.jlr_trace.proofs.ListLengths.{short, rises}
 use Rattle.jlr_trace.proofs.Workers.{few_jobs, few_resources}
@@ -77,7 +78,7 @@ module _ (m : Machine) (w : IsWellFormed m) where
   -- ---- Handles are at most 250, so there are 251 places for them
 
   none_above : (n : ℕ) (xs : List (Option ℕ)) → n + length xs ≤ 251
-      → list_any (λ (h : Held). nat_lt 250 h.handle) (listed_from held n xs) ≡ false
+      → list_any (λ (h : Held). nat_lt 250 h.handle) (listed_from handle_held n xs) ≡ false
   none_above n [] le = refl
   none_above n (None ∷ xs) le = none_above (suc n) xs (omega (arith, le))
   none_above n (Some s ∷ xs) le =

@@ -8,7 +8,7 @@ use Rattle.jlr_trace_fields.specs.Items.{may_follow, Rises, IsRising}
 use Rattle.jlr_trace_fields.specs.declared.version.Version.TheVariants.{Two}
 use Rattle.jlr_trace_fields.specs.Objects.{ObjectFits}
 use Rattle.jlr_trace_fields.specs.Records.{PlacedFits, HeldFits}
-use Rattle.jlr_trace_entries.specs.Images.{listed_from, placed, held}
+use Rattle.jlr_trace_entries.specs.Images.{listed_from, placed, handle_held}
 use Rattle.jlr_trace_entries.proofs.WritingLaws.{counted, occupied_within}
 use Rattle.jlr_trace.specs.Ranges.{HandleRange}
 
@@ -30,7 +30,8 @@ placed_rise n before [] b = tt
 placed_rise n before (None ∷ xs) b = placed_rise (suc n) before xs (later before n b)
 placed_rise n before (Some o ∷ xs) b = (follows before n b, placed_rise (suc n) (Some n) xs (omega arith))
 
-held_rise : (n : ℕ) (before : Option ℕ) (xs : List (Option ℕ)) → Before before n → Rises (λ h. h.handle) before (listed_from held n xs)
+held_rise : (n : ℕ) (before : Option ℕ) (xs : List (Option ℕ)) → Before before n → Rises (λ h. h.handle) before
+    (listed_from handle_held n xs)
 held_rise n before [] b = tt
 held_rise n before (None ∷ xs) b = held_rise (suc n) before xs (later before n b)
 held_rise n before (Some s ∷ xs) b = (follows before n b, held_rise (suc n) (Some n) xs (omega arith))
@@ -46,7 +47,7 @@ placed_fit n (None ∷ xs) le all = placed_fit (suc n) xs (omega (arith, le)) al
 placed_fit n (Some o ∷ xs) le all = (record { slot = omega (arith, le); object = all.0 }, placed_fit (suc n) xs (omega (arith, le)) all.1)
 
 held_fit : (n : ℕ) (xs : List (Option ℕ)) → n + length xs ≤ 256 → AllByRecursion HandleRange xs
-    → AllByRecursion HeldFits (listed_from held n xs)
+    → AllByRecursion HeldFits (listed_from handle_held n xs)
 held_fit n [] le all = tt
 held_fit n (None ∷ xs) le all = held_fit (suc n) xs (omega (arith, le)) all.1
 held_fit n (Some s ∷ xs) le all = (record { handle = omega (arith, le); slot = all.0 }, held_fit (suc n) xs (omega (arith, le)) all.1)
@@ -62,9 +63,9 @@ table_fits xs le all =
     }
 
 pub handles_fit : (xs : List (Option ℕ)) → length xs ≤ 256 → AllByRecursion HandleRange xs
-    → IsRising HeldFits (λ h. h.handle) (listed_from held 0 xs)
+    → IsRising HeldFits (λ h. h.handle) (listed_from handle_held 0 xs)
 handles_fit xs le all =
-    let count = counted held 0 xs in
+    let count = counted handle_held 0 xs in
     let within = occupied_within xs in
     record {
       listed = record { count = omega (arith, count, within, le); each = held_fit 0 xs (omega (arith, le)) all };

@@ -33,7 +33,7 @@ use Rattle.jlr_trace_entries.specs.declared.answers.tag.Tag.TheVariants.{Out as 
 use Rattle.jlr_trace_entries.specs.declared.answers.tag.Tag.TheVariants.{Handed as TagHanded, Refused as TagRefused}
 use Rattle.jlr_trace_entries.specs.Answers.{refusals, handings, handing_number, spelled_stat, StatFits, stat_read, spelled_answer}
 use Rattle.jlr_trace_entries.specs.Answers.{AnswerFits}
-use Rattle.jlr_trace_entries.specs.Answers.{tags, body_of, answer_read}
+use Rattle.jlr_trace_entries.specs.Answers.{answer_tags, answer_body, answer_read}
 
 -- ---- Tables
 
@@ -112,7 +112,7 @@ tag_number TagOut = 14
 tag_number TagHanded = 15
 tag_number TagRefused = 16
 
-body_takes : (tag : Tag) → TakesBehind (tag_number tag ∷ []) (body_of tag) spelled_answer AnswerFits
+body_takes : (tag : Tag) → TakesBehind (tag_number tag ∷ []) (answer_body tag) spelled_answer AnswerFits
 body_takes TagDone = made_takes (0 ∷ []) Done spelled_answer AnswerFits refl tt
 body_takes TagHandle = one_takes byte (1 ∷ []) Handle spelled_answer AnswerFits (λ a. refl) (λ a p. p)
 body_takes TagTruth = one_takes flag (2 ∷ []) Truth spelled_answer AnswerFits (λ a. refl) (λ a p. tt)
@@ -134,8 +134,8 @@ body_takes TagRefused = one_takes refusal (16 ∷ []) Refused spelled_answer Ans
 answer_takes : TakesSpelled answer_read spelled_answer AnswerFits
 unfolding answer_read
 answer_takes bs x rest fits e =
-    let a = bind_ok (picked_at 0 tags bs) (λ tag. body_of tag.0 tag.1) (x, rest) e in
-    let t = picked_takes 0 tags tag_number refl bs a.0.0 a.0.1 fits a.1 in
+    let a = bind_ok (picked_at 0 answer_tags bs) (λ tag. answer_body tag.0 tag.1) (x, rest) e in
+    let t = picked_takes 0 answer_tags tag_number refl bs a.0.0 a.0.1 fits a.1 in
     let r = body_takes a.0.0 a.0.1 x rest t.rest_fits a.2 in
     (record { parts = t.parts ∙ r.0.parts; rest_fits = r.0.rest_fits }, r.1)
 

@@ -52,22 +52,23 @@ use Rattle.jlr_trace_entries.specs.declared.asks.tag.Tag.TheVariants.{Stat as Ta
 use Rattle.jlr_trace_entries.specs.declared.asks.tag.Tag.TheVariants.{Notes as TagNotes, Faults as TagFaults, HandOver as TagHandOver}
 use Rattle.jlr_trace_entries.specs.declared.asks.tag.Tag.TheVariants.{TakeUp as TagTakeUp, Begin as TagBegin, Collect as TagCollect}
 use Rattle.jlr_trace_entries.specs.declared.asks.tag.Tag.TheVariants.{Abandon as TagAbandon, Array as TagArray}
-use Rattle.jlr_trace_entries.specs.Asks.{outcomes, outcome_number, modes, mode_number, spelled_kind, spelled_layout, kind_read, layout_read}
+use Rattle.jlr_trace_entries.specs.Asks.{outcomes_by_number, outcome_number, modes, mode_number, spelled_kind, spelled_layout, kind_read}
+use Rattle.jlr_trace_entries.specs.Asks.{layout_read}
 use Rattle.jlr_trace_entries.specs.Asks.{spelled_call_outcome, CallOutcomeFits, call_outcome_behind, call_outcome_read, spelled_field}
 use Rattle.jlr_trace_entries.specs.Asks.{FieldFits}
-use Rattle.jlr_trace_entries.specs.Asks.{field_read, spelled_ask, AskFits, tags, array_read, body_of, ask_read}
+use Rattle.jlr_trace_entries.specs.Asks.{field_read, spelled_ask, AskFits, ask_tags, array_read, ask_body, ask_read}
 
 -- ---- Tables
 
-outcome_again : (x : Outcome) (rest : List ℕ) → picked_at 0 outcomes (outcome_number x ∷ rest) ≡ Ok (x, rest)
+outcome_again : (x : Outcome) (rest : List ℕ) → picked_at 0 outcomes_by_number (outcome_number x ∷ rest) ≡ Ok (x, rest)
 unfolding picked_at
 outcome_again OutcomeOk rest = refl
 outcome_again (Failed NotFound) rest = refl
 outcome_again (Failed Denied) rest = refl
 outcome_again (Failed Other) rest = refl
 
-outcome : IsField (picked_at 0 outcomes) (λ x. spelled_8 (outcome_number x)) (λ _. Unit {0})
-outcome = picked 0 outcomes outcome_number refl outcome_again
+outcome : IsField (picked_at 0 outcomes_by_number) (λ x. spelled_8 (outcome_number x)) (λ _. Unit {0})
+outcome = picked 0 outcomes_by_number outcome_number refl outcome_again
 
 mode_again : (x : FullMode) (rest : List ℕ) → picked_at 0 modes (mode_number x ∷ rest) ≡ Ok (x, rest)
 unfolding picked_at
@@ -234,7 +235,7 @@ array_takes : (version : Version) → TakesBehind (41 ∷ []) (array_read versio
 array_takes One = λ bs x rest fits e. absurd cc
 array_takes Two = two_takes byte element_count (41 ∷ []) Array (spelled_ask Two) (AskFits Two) (λ a b. refl) (λ a b p q. (p, q))
 
-body_takes : (version : Version) (tag : Tag) → TakesBehind (tag_number tag ∷ []) (body_of version tag) (spelled_ask version)
+body_takes : (version : Version) (tag : Tag) → TakesBehind (tag_number tag ∷ []) (ask_body version tag) (spelled_ask version)
     (AskFits version)
 body_takes version TagJoin = one_takes byte (0 ∷ []) Join (spelled_ask version) (AskFits version) (λ a. refl) (λ a p. p)
 body_takes version TagLeave = one_takes byte (1 ∷ []) Leave (spelled_ask version) (AskFits version) (λ a. refl) (λ a p. p)
@@ -298,8 +299,8 @@ body_takes version TagArray = array_takes version
 ask_takes : (version : Version) → TakesSpelled (ask_read version) (spelled_ask version) (AskFits version)
 unfolding ask_read
 ask_takes version bs x rest fits e =
-    let a = bind_ok (picked_at 0 tags bs) (λ tag. body_of version tag.0 tag.1) (x, rest) e in
-    let t = picked_takes 0 tags tag_number refl bs a.0.0 a.0.1 fits a.1 in
+    let a = bind_ok (picked_at 0 ask_tags bs) (λ tag. ask_body version tag.0 tag.1) (x, rest) e in
+    let t = picked_takes 0 ask_tags tag_number refl bs a.0.0 a.0.1 fits a.1 in
     let r = body_takes version a.0.0 a.0.1 x rest t.rest_fits a.2 in
     (record { parts = t.parts ∙ r.0.parts; rest_fits = r.0.rest_fits }, r.1)
 

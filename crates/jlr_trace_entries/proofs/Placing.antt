@@ -23,7 +23,7 @@ use Rattle.jlr_trace_fields.specs.Objects.{object_read}
 use Rattle.jlr_trace_fields.specs.Records.{held_behind, held_after, placed_behind, placed_after}
 use Rattle.jlr_trace_fields.specs.declared.parts.record.Placed.{Placed}
 use Rattle.jlr_trace_fields.specs.declared.parts.record.Held.{Held}
-use Rattle.jlr_trace_entries.specs.Images.{listed_from, placed, held}
+use Rattle.jlr_trace_entries.specs.Images.{listed_from, placed, handle_held}
 
 -- a test that did not fail
 tested : {A : Type 0} (b : Bool) (d : Fault) (r : Result A Fault) (y : A) → cond b r (Err d) ≡ Ok y → (b ≡ true) × (r ≡ Ok y)
@@ -108,8 +108,8 @@ unfolding held_after
 held_follows before bytes x rest e =
     let a = bind_ok (byte_at bytes) (λ k. cond (may_follow before k.0) (held_behind k.0 k.1) (Err Range)) (x, rest) e in
     let g = tested (may_follow before a.0.0) Range (held_behind a.0.0 a.0.1) (x, rest) a.2 in
-    let b = bind_ok (number_at w32 a.0.1) (λ s. Ok (held a.0.0 s.0, s.1)) (x, rest) g.1 in
-    let made : Held × List ℕ = (held a.0.0 b.0.0, b.0.1) in
+    let b = bind_ok (number_at w32 a.0.1) (λ s. Ok (handle_held a.0.0 s.0, s.1)) (x, rest) g.1 in
+    let made : Held × List ℕ = (handle_held a.0.0 b.0.0, b.0.1) in
     subst (λ (y : Held × List ℕ). IsTrue (may_follow before y.0.handle)) (ok_is made (x, rest) b.2) g.0
 
 pub placed_follows : (version : Version) (before : Option ℕ) (bytes : List ℕ) (x : Placed) (rest : List ℕ)
@@ -160,7 +160,7 @@ is_high h = ltb 250 h.handle
 
 -- what holds after one more handle
 pub record HeldSoFar (items : List Held) (i : ℕ) (places : List (Option ℕ)) : Type 0 where
-  pub listed : listed_from held 0 places ≡ take i items
+  pub listed : listed_from handle_held 0 places ≡ take i items
   pub rises : Rises (λ h. h.handle) (before_of (length places)) (drop i items)
   -- a handle above 250 was met just where there are more than 251 places
   pub high : list_any (λ h. ltb 250 h.handle) (take i items) ≡ ltb 251 (length places)
@@ -190,12 +190,12 @@ held_step items i item places padded_places new lt is byte so_far p q =
     ∙ ap (λ (l : List (Option ℕ)). l ++ Some item.slot ∷ []) p in
     let longer : take (suc i) items ≡ take i items ++ item ∷ [] = take-suc items i item lt
     ∙ ap (λ (x : Held). take i items ++ x ∷ []) (sym is) in
-    let listed_new : listed_from held 0 new ≡ take (suc i) items = ap (listed_from held 0) new_is
-    ∙ put-behind held places item.handle item.slot above ∙ ap (λ (l : List Held). l ++ item ∷ []) so_far.listed ∙ sym longer in
+    let listed_new : listed_from handle_held 0 new ≡ take (suc i) items = ap (listed_from handle_held 0) new_is
+    ∙ put-behind handle_held places item.handle item.slot above ∙ ap (λ (l : List Held). l ++ item ∷ []) so_far.listed ∙ sym longer in
     let size : length new ≡ suc item.handle = ap length new_is ∙ put-length places item.handle item.slot above in
     let one : suc i ≡ i + 1 = omega arith in
     record {
-      listed = subst (λ k. listed_from held 0 new ≡ take k items) one listed_new;
+      listed = subst (λ k. listed_from handle_held 0 new ≡ take k items) one listed_new;
       rises = subst (λ k. Rises (λ h. h.handle) (before_of (length new)) (drop k items)) one
           (subst (λ k. Rises (λ h. h.handle) (before_of k) (drop (suc i) items)) (sym size) rising.1);
       high =
@@ -205,8 +205,9 @@ held_step items i item places padded_places new lt is byte so_far p q =
     }
 
 pub held_end : (items : List Held) (i k : ℕ) (places new : List (Option ℕ)) → length items ≤ i → HeldSoFar items i places → new ≡ places
-    ++ replicate k None → listed_from held 0 new ≡ items
-held_end items i k places new le so_far p = ap (listed_from held 0) p ∙ padded held places k ∙ so_far.listed ∙ take_all items i le
+    ++ replicate k None → listed_from handle_held 0 new ≡ items
+held_end items i k places new le so_far p = ap (listed_from handle_held 0) p ∙ padded handle_held places k ∙ so_far.listed
+    ∙ take_all items i le
 
 -- ---- Objects, one after the other
 

@@ -18,7 +18,7 @@ use Rattle.jlr_trace_entries.specs.Answers.{AnswerFits, AnswerCounts}
 use Rattle.jlr_trace_entries.specs.declared.image.Image.{Image}
 use Rattle.jlr_trace_entries.specs.Choices.{CollectionFits, CollectionCounts}
 use Rattle.jlr_trace_entries.specs.Entries.{EntryFits, EntryCounts}
-use Rattle.jlr_trace_entries.specs.Images.{listed_from, placed, held, image_text, ImageFits, places_of, HasPlaces, HasShape}
+use Rattle.jlr_trace_entries.specs.Images.{listed_from, placed, handle_held, image_text, ImageFits, places_of, HasPlaces, HasShape}
 use Rattle.jlr_trace_entries.specs.Writing.{PlaceCounts, SessionCounts, ImageCounts}
 use Rattle.jlr_trace_entries.proofs.WritingLaws.{placed_counted}
 
@@ -60,7 +60,7 @@ few_places handles = few _
 
 session_counts_of : (o : Option Session) → HasPlaces o → SessionCounts o
 session_counts_of None p = tt
-session_counts_of (Some s) p = let le = few_places (listed_from held 0 s.handles) in omega (arith, p, le)
+session_counts_of (Some s) p = let le = few_places (listed_from handle_held 0 s.handles) in omega (arith, p, le)
 
 all_sessions_count : (xs : List (Option Session)) → AllByRecursion HasPlaces xs → AllByRecursion SessionCounts xs
 all_sessions_count [] all = tt

@@ -11,7 +11,7 @@ use Rattle.jlr_machine.specs.Objects.{Table}
 use Rattle.jlr_trace_fields.specs.declared.parts.record.Placed.{Placed}
 use Rattle.jlr_trace_fields.specs.declared.parts.record.Held.{Held}
 use Rattle.jlr_trace_entries.specs.declared.image.Image.{Image}
-use Rattle.jlr_trace_entries.specs.Images.{SessionText, listed_from, placed, held, session_text, ImageText, image_text, places_of}
+use Rattle.jlr_trace_entries.specs.Images.{SessionText, listed_from, placed, handle_held, session_text, ImageText, image_text, places_of}
 use Rattle.jlr_trace_entries.specs.Images.{HasPlaces}
 use Rattle.jlr_trace_entries.specs.Images.{HasShape}
 
@@ -71,12 +71,13 @@ one_table xs ys s t size far_s far_t e =
     told_apart placed (λ p. p.slot) (λ p. p.object) (λ n x. refl) (λ n x. refl) 0 (length xs) xs ys s t
     (omega arith) (omega (arith, size)) far_s (subst (λ n. AllByRecursion (λ (p : Placed). n ≤ p.slot) t) (sym size) far_t) e
 
-one_held : (xs ys : Table ℕ) → length xs ≡ length ys → listed_from held 0 xs ≡ listed_from held 0 ys → xs ≡ ys
+one_held : (xs ys : Table ℕ) → length xs ≡ length ys → listed_from handle_held 0 xs ≡ listed_from handle_held 0 ys → xs ≡ ys
 one_held xs ys size e =
     let none : List Held = [] in
     let both =
-    told_apart held (λ h. h.handle) (λ h. h.slot) (λ n x. refl) (λ n x. refl) 0 (length xs) xs ys none none
-    (omega arith) (omega (arith, size)) tt tt (append-nil (listed_from held 0 xs) ∙ e ∙ sym (append-nil (listed_from held 0 ys))) in
+    told_apart handle_held (λ h. h.handle) (λ h. h.slot) (λ n x. refl) (λ n x. refl) 0 (length xs) xs ys none none
+    (omega arith) (omega (arith, size)) tt tt (append-nil (listed_from handle_held 0 xs) ∙ e
+    ∙ sym (append-nil (listed_from handle_held 0 ys))) in
     both.0
 
 -- ---- Sessions
@@ -86,7 +87,7 @@ made_session handles fence call = record { handles = handles; fence = fence; cal
 
 one_session : (s t : Session) → HasPlaces (Some s) → HasPlaces (Some t) → session_text s ≡ session_text t → s ≡ t
 one_session s t p q e =
-    let listed : listed_from held 0 s.handles ≡ listed_from held 0 t.handles = ap (λ (x : SessionText). x.handles) e in
+    let listed : listed_from handle_held 0 s.handles ≡ listed_from handle_held 0 t.handles = ap (λ (x : SessionText). x.handles) e in
     let handles : s.handles ≡ t.handles = one_held s.handles t.handles (p ∙ ap places_of listed ∙ sym q) listed in
     ap (λ (h : List (Option ℕ)). made_session h s.fence s.call) handles
     ∙ ap (λ (f : Option ℕ). made_session t.handles f s.call) (ap (λ (x : SessionText). x.fence) e)

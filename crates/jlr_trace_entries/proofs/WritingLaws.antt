@@ -11,7 +11,7 @@ use Rattle.jlr_machine.specs.Objects.{at, occupied}
 use Rattle.jlr_machine.specs.declared.object.Object.{Object}
 use Rattle.jlr_machine.specs.declared.machine.Session.{Session}
 use Rattle.jlr_trace_fields.specs.declared.parts.record.Placed.{Placed}
-use Rattle.jlr_trace_entries.specs.Images.{listed_from, placed, held, session_text, spelled_session}
+use Rattle.jlr_trace_entries.specs.Images.{listed_from, placed, handle_held, session_text, spelled_session}
 use Rattle.jlr_trace_entries.specs.Writing.{spelled_place, PlaceCounts, SessionCounts, spelled_session_of}
 
 -- a list has as many items as places of its table have something
@@ -29,8 +29,8 @@ counted {A} make n (Some x ∷ places) =
 pub occupied_within : {A : Type 0} (places : List (Option A)) → occupied places ≤ length places
 occupied_within places = count_by-le-length is_some places
 
-pub held_counted : (handles : List (Option ℕ)) → occupied handles ≡ length (listed_from held 0 handles)
-held_counted handles = counted held 0 handles
+pub held_counted : (handles : List (Option ℕ)) → occupied handles ≡ length (listed_from handle_held 0 handles)
+held_counted handles = counted handle_held 0 handles
 
 pub placed_counted : (table : List (Option Object)) (strays : List Placed)
     → occupied table + length strays ≡ length (listed_from placed 0 table ++ strays)

@@ -18,7 +18,7 @@ use Rattle.jlr_trace_fields.specs.Spelling.{spelled_flag, spelled_32, spelled_64
 use Rattle.jlr_trace_fields.specs.Spelling.{IsSigned}
 use Rattle.jlr_trace_fields.specs.Spelling.{IsText, IsWithin}
 use Rattle.jlr_trace_fields.specs.Reading.{Reader, ◌>>=◌, one_field, two_fields, five_fields, byte_at, byte_within_at}
-use Rattle.jlr_trace_fields.specs.Reading.{number_at, signed_at, flag_at, picked_at, bytes_at, text_at, is_name_byte}
+use Rattle.jlr_trace_fields.specs.Reading.{number_at, signed_at, flag_at, picked_at, bytes_at, text_at, is_name_letter}
 use Rattle.jlr_trace_fields.specs.Items.{list_at, spelled_list, IsListed}
 use Rattle.jlr_trace_fields.specs.Tables.{faults, fault_number}
 use Rattle.jlr_trace_fields.specs.Objects.{spelled_work, WorkFits, work_read}
@@ -118,29 +118,30 @@ AnswerCounts (Notes x) = length x < 2 ^ 32
 AnswerCounts (Faults x) = length x < 2 ^ 32
 AnswerCounts _ = Unit {0}
 
-abbrev pub tags : List Tag
-tags = TagDone ∷ TagHandle ∷ TagTruth ∷ TagInt ∷ TagData ∷ TagWrote ∷ TagFaulted ∷ TagNames ∷ TagNotes ∷ TagFaults
+abbrev pub answer_tags : List Tag
+answer_tags = TagDone ∷ TagHandle ∷ TagTruth ∷ TagInt ∷ TagData ∷ TagWrote ∷ TagFaulted ∷ TagNames ∷ TagNotes
+    ∷ TagFaults
     ∷ TagStat ∷ TagJob ∷ TagAlreadyDone ∷ TagPrepared ∷ TagOut ∷ TagHanded ∷ TagRefused ∷ []
 
 -- what stands behind the number of an answer
-abbrev pub body_of : Tag → Reader Answer
-body_of TagDone bytes = Ok (Done, bytes)
-body_of TagHandle bytes = one_field byte_at Handle bytes
-body_of TagTruth bytes = one_field flag_at Truth bytes
-body_of TagInt bytes = one_field signed_at Int bytes
-body_of TagData bytes = one_field (bytes_at 0 200) Data bytes
-body_of TagWrote bytes = one_field (byte_within_at 0 200) Wrote bytes
-body_of TagFaulted bytes = one_field (picked_at 1 faults) Faulted bytes
-body_of TagNames bytes = one_field (list_at 2 (text_at 1 32 is_name_byte)) Names bytes
-body_of TagNotes bytes = one_field (list_at 4 (number_at w32)) Notes bytes
-body_of TagFaults bytes = one_field (list_at 9 failure_read) Faults bytes
-body_of TagStat bytes = one_field stat_read Stat bytes
-body_of TagJob bytes = two_fields (number_at w64) work_read Job bytes
-body_of TagAlreadyDone bytes = Ok (AlreadyDone, bytes)
-body_of TagPrepared bytes = one_field (number_at w32) Prepared bytes
-body_of TagOut bytes = one_field (number_at w32) Out bytes
-body_of TagHanded bytes = one_field (picked_at 0 handings) Handed bytes
-body_of TagRefused bytes = one_field (picked_at 1 refusals) Refused bytes
+abbrev pub answer_body : Tag → Reader Answer
+answer_body TagDone bytes = Ok (Done, bytes)
+answer_body TagHandle bytes = one_field byte_at Handle bytes
+answer_body TagTruth bytes = one_field flag_at Truth bytes
+answer_body TagInt bytes = one_field signed_at Int bytes
+answer_body TagData bytes = one_field (bytes_at 0 200) Data bytes
+answer_body TagWrote bytes = one_field (byte_within_at 0 200) Wrote bytes
+answer_body TagFaulted bytes = one_field (picked_at 1 faults) Faulted bytes
+answer_body TagNames bytes = one_field (list_at 2 (text_at 1 32 is_name_letter)) Names bytes
+answer_body TagNotes bytes = one_field (list_at 4 (number_at w32)) Notes bytes
+answer_body TagFaults bytes = one_field (list_at 9 failure_read) Faults bytes
+answer_body TagStat bytes = one_field stat_read Stat bytes
+answer_body TagJob bytes = two_fields (number_at w64) work_read Job bytes
+answer_body TagAlreadyDone bytes = Ok (AlreadyDone, bytes)
+answer_body TagPrepared bytes = one_field (number_at w32) Prepared bytes
+answer_body TagOut bytes = one_field (number_at w32) Out bytes
+answer_body TagHanded bytes = one_field (picked_at 0 handings) Handed bytes
+answer_body TagRefused bytes = one_field (picked_at 1 refusals) Refused bytes
 
 unfoldable pub answer_read : Reader Answer
-answer_read bytes = picked_at 0 tags bytes >>= λ tag. body_of tag.0 tag.1
+answer_read bytes = picked_at 0 answer_tags bytes >>= λ tag. answer_body tag.0 tag.1

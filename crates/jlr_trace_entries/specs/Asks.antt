@@ -27,7 +27,7 @@ use Rattle.jlr_trace_fields.specs.Spelling.{spelled_8, spelled_16, spelled_32, s
 use Rattle.jlr_trace_fields.specs.Spelling.{IsSigned, IsText, IsWithin}
 use Rattle.jlr_trace_fields.specs.Reading.{Reader, ◌>>=◌, one_field, two_fields, three_fields, four_fields, byte_at}
 use Rattle.jlr_trace_fields.specs.Reading.{byte_within_at, number_at, number_within_at, signed_at, picked_at, bytes_at}
-use Rattle.jlr_trace_fields.specs.Reading.{text_at, is_name_byte}
+use Rattle.jlr_trace_fields.specs.Reading.{text_at, is_name_letter}
 use Rattle.jlr_trace_fields.specs.Items.{items_at}
 use Rattle.jlr_trace_fields.specs.Tables.{ref_kinds, ref_kind_number, faults, fault_number}
 use Rattle.jlr_trace_fields.specs.Records.{NameFits}
@@ -60,8 +60,8 @@ use Rattle.jlr_trace_entries.specs.declared.asks.tag.Tag.TheVariants.{Abandon as
 
 -- ---- Tables
 
-abbrev pub outcomes : List Outcome
-outcomes = OutcomeOk ∷ Failed NotFound ∷ Failed Denied ∷ Failed Other ∷ []
+abbrev pub outcomes_by_number : List Outcome
+outcomes_by_number = OutcomeOk ∷ Failed NotFound ∷ Failed Denied ∷ Failed Other ∷ []
 
 abbrev pub outcome_number : Outcome → ℕ
 outcome_number OutcomeOk = 0
@@ -231,8 +231,8 @@ AskFits version Collect = Unit {0}
 AskFits version Abandon = Unit {0}
 AskFits version (Array mutator length) = ArrayFits version mutator length
 
-abbrev pub tags : List Tag
-tags = TagJoin ∷ TagLeave ∷ TagNew ∷ TagPut ∷ TagGet ∷ TagSetInt ∷ TagInt ∷ TagDup ∷ TagDrop ∷ TagSame ∷ TagMakeRef
+abbrev pub ask_tags : List Tag
+ask_tags = TagJoin ∷ TagLeave ∷ TagNew ∷ TagPut ∷ TagGet ∷ TagSetInt ∷ TagInt ∷ TagDup ∷ TagDrop ∷ TagSame ∷ TagMakeRef
     ∷ TagDeref ∷ TagRefers ∷ TagClear ∷ TagEnqueue ∷ TagEnqueued ∷ TagMakeQueue ∷ TagPoll ∷ TagRemove ∷ TagMakeCleaner
     ∷ TagRegister ∷ TagClean ∷ TagPrepare ∷ TagOpened ∷ TagCheckOut ∷ TagCheckIn ∷ TagClose ∷ TagFinish ∷ TagBind
     ∷ TagFind ∷ TagUnbind ∷ TagNames ∷ TagFull ∷ TagStat ∷ TagNotes ∷ TagFaults ∷ TagHandOver ∷ TagTakeUp ∷ TagBegin
@@ -244,49 +244,49 @@ array_read One bytes = Err Range
 array_read Two bytes = two_fields byte_at (number_within_at w16 1 4096) Array bytes
 
 -- what stands behind the number of an ask
-abbrev pub body_of : Version → Tag → Reader Ask
-body_of version TagJoin bytes = one_field byte_at Join bytes
-body_of version TagLeave bytes = one_field byte_at Leave bytes
-body_of version TagNew bytes = two_fields byte_at layout_read New bytes
-body_of version TagPut bytes = four_fields byte_at byte_at (field_read version) byte_at Put bytes
-body_of version TagGet bytes = three_fields byte_at byte_at (field_read version) Get bytes
-body_of version TagSetInt bytes = four_fields byte_at byte_at (field_read version) signed_at SetInt bytes
-body_of version TagInt bytes = three_fields byte_at byte_at (field_read version) Int bytes
-body_of version TagDup bytes = two_fields byte_at byte_at Dup bytes
-body_of version TagDrop bytes = two_fields byte_at byte_at Drop bytes
-body_of version TagSame bytes = three_fields byte_at byte_at byte_at Same bytes
-body_of version TagMakeRef bytes = four_fields byte_at (picked_at 0 ref_kinds) byte_at byte_at MakeRef bytes
-body_of version TagDeref bytes = two_fields byte_at byte_at Deref bytes
-body_of version TagRefers bytes = three_fields byte_at byte_at byte_at Refers bytes
-body_of version TagClear bytes = two_fields byte_at byte_at Clear bytes
-body_of version TagEnqueue bytes = two_fields byte_at byte_at Enqueue bytes
-body_of version TagEnqueued bytes = two_fields byte_at byte_at Enqueued bytes
-body_of version TagMakeQueue bytes = one_field byte_at MakeQueue bytes
-body_of version TagPoll bytes = two_fields byte_at byte_at Poll bytes
-body_of version TagRemove bytes = two_fields byte_at byte_at Remove bytes
-body_of version TagMakeCleaner bytes = one_field byte_at MakeCleaner bytes
-body_of version TagRegister bytes = four_fields byte_at byte_at byte_at (number_at w32) Register bytes
-body_of version TagClean bytes = two_fields byte_at byte_at Clean bytes
-body_of version TagPrepare bytes = one_field byte_at Prepare bytes
-body_of version TagOpened bytes = two_fields byte_at (picked_at 0 outcomes) Opened bytes
-body_of version TagCheckOut bytes = two_fields byte_at byte_at CheckOut bytes
-body_of version TagCheckIn bytes = two_fields byte_at call_outcome_read CheckIn bytes
-body_of version TagClose bytes = two_fields byte_at byte_at Close bytes
-body_of version TagFinish bytes = three_fields byte_at (number_at w64) (picked_at 0 outcomes) Finish bytes
-body_of version TagBind bytes = three_fields byte_at (text_at 1 32 is_name_byte) byte_at Bind bytes
-body_of version TagFind bytes = two_fields byte_at (text_at 1 32 is_name_byte) Find bytes
-body_of version TagUnbind bytes = two_fields byte_at (text_at 1 32 is_name_byte) Unbind bytes
-body_of version TagNames bytes = one_field byte_at Names bytes
-body_of version TagFull bytes = two_fields byte_at (picked_at 0 modes) Full bytes
-body_of version TagStat bytes = one_field byte_at Stat bytes
-body_of version TagNotes bytes = one_field byte_at Notes bytes
-body_of version TagFaults bytes = one_field byte_at Faults bytes
-body_of version TagHandOver bytes = Ok (HandOver, bytes)
-body_of version TagTakeUp bytes = Ok (TakeUp, bytes)
-body_of version TagBegin bytes = Ok (Begin, bytes)
-body_of version TagCollect bytes = Ok (Collect, bytes)
-body_of version TagAbandon bytes = Ok (Abandon, bytes)
-body_of version TagArray bytes = array_read version bytes
+abbrev pub ask_body : Version → Tag → Reader Ask
+ask_body version TagJoin bytes = one_field byte_at Join bytes
+ask_body version TagLeave bytes = one_field byte_at Leave bytes
+ask_body version TagNew bytes = two_fields byte_at layout_read New bytes
+ask_body version TagPut bytes = four_fields byte_at byte_at (field_read version) byte_at Put bytes
+ask_body version TagGet bytes = three_fields byte_at byte_at (field_read version) Get bytes
+ask_body version TagSetInt bytes = four_fields byte_at byte_at (field_read version) signed_at SetInt bytes
+ask_body version TagInt bytes = three_fields byte_at byte_at (field_read version) Int bytes
+ask_body version TagDup bytes = two_fields byte_at byte_at Dup bytes
+ask_body version TagDrop bytes = two_fields byte_at byte_at Drop bytes
+ask_body version TagSame bytes = three_fields byte_at byte_at byte_at Same bytes
+ask_body version TagMakeRef bytes = four_fields byte_at (picked_at 0 ref_kinds) byte_at byte_at MakeRef bytes
+ask_body version TagDeref bytes = two_fields byte_at byte_at Deref bytes
+ask_body version TagRefers bytes = three_fields byte_at byte_at byte_at Refers bytes
+ask_body version TagClear bytes = two_fields byte_at byte_at Clear bytes
+ask_body version TagEnqueue bytes = two_fields byte_at byte_at Enqueue bytes
+ask_body version TagEnqueued bytes = two_fields byte_at byte_at Enqueued bytes
+ask_body version TagMakeQueue bytes = one_field byte_at MakeQueue bytes
+ask_body version TagPoll bytes = two_fields byte_at byte_at Poll bytes
+ask_body version TagRemove bytes = two_fields byte_at byte_at Remove bytes
+ask_body version TagMakeCleaner bytes = one_field byte_at MakeCleaner bytes
+ask_body version TagRegister bytes = four_fields byte_at byte_at byte_at (number_at w32) Register bytes
+ask_body version TagClean bytes = two_fields byte_at byte_at Clean bytes
+ask_body version TagPrepare bytes = one_field byte_at Prepare bytes
+ask_body version TagOpened bytes = two_fields byte_at (picked_at 0 outcomes_by_number) Opened bytes
+ask_body version TagCheckOut bytes = two_fields byte_at byte_at CheckOut bytes
+ask_body version TagCheckIn bytes = two_fields byte_at call_outcome_read CheckIn bytes
+ask_body version TagClose bytes = two_fields byte_at byte_at Close bytes
+ask_body version TagFinish bytes = three_fields byte_at (number_at w64) (picked_at 0 outcomes_by_number) Finish bytes
+ask_body version TagBind bytes = three_fields byte_at (text_at 1 32 is_name_letter) byte_at Bind bytes
+ask_body version TagFind bytes = two_fields byte_at (text_at 1 32 is_name_letter) Find bytes
+ask_body version TagUnbind bytes = two_fields byte_at (text_at 1 32 is_name_letter) Unbind bytes
+ask_body version TagNames bytes = one_field byte_at Names bytes
+ask_body version TagFull bytes = two_fields byte_at (picked_at 0 modes) Full bytes
+ask_body version TagStat bytes = one_field byte_at Stat bytes
+ask_body version TagNotes bytes = one_field byte_at Notes bytes
+ask_body version TagFaults bytes = one_field byte_at Faults bytes
+ask_body version TagHandOver bytes = Ok (HandOver, bytes)
+ask_body version TagTakeUp bytes = Ok (TakeUp, bytes)
+ask_body version TagBegin bytes = Ok (Begin, bytes)
+ask_body version TagCollect bytes = Ok (Collect, bytes)
+ask_body version TagAbandon bytes = Ok (Abandon, bytes)
+ask_body version TagArray bytes = array_read version bytes
 
 unfoldable pub ask_read : Version → Reader Ask
-ask_read version bytes = picked_at 0 tags bytes >>= λ tag. body_of version tag.0 tag.1
+ask_read version bytes = picked_at 0 ask_tags bytes >>= λ tag. ask_body version tag.0 tag.1

@@ -38,8 +38,8 @@ listed_from make n (Some x ∷ places) = make n x ∷ listed_from make (suc n) p
 abbrev pub placed : ℕ → Object → Placed
 placed slot object = record { slot = slot; object = object }
 
-abbrev pub held : ℕ → ℕ → Held
-held handle slot = record { handle = handle; slot = slot }
+abbrev pub handle_held : ℕ → ℕ → Held
+handle_held handle slot = record { handle = handle; slot = slot }
 
 -- ---- The head
 
@@ -69,7 +69,7 @@ pub record SessionText : Type 0 where
   pub call : Call
 
 abbrev pub session_text : Session → SessionText
-session_text s = record { handles = listed_from held 0 s.handles; fence = s.fence; call = s.call }
+session_text s = record { handles = listed_from handle_held 0 s.handles; fence = s.fence; call = s.call }
 
 abbrev pub spelled_session : Option SessionText → List ℕ
 spelled_session None = 0 ∷ []
@@ -212,7 +212,7 @@ places_of handles = if list_any (λ h. nat_lt 250 h.handle) handles then 256 els
 
 abbrev pub HasPlaces : Option Session → Type 0
 HasPlaces None = Unit {0}
-HasPlaces (Some s) = length s.handles ≡ places_of (listed_from held 0 s.handles)
+HasPlaces (Some s) = length s.handles ≡ places_of (listed_from handle_held 0 s.handles)
 
 -- what the text of an image does not say: no cycle is open, nothing was seen, strays lie in no cells, and how many
 -- places handles have

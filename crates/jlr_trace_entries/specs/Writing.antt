@@ -9,7 +9,7 @@ use Rattle.jlr_trace_fields.specs.Items.{spelled_list}
 use Rattle.jlr_trace_fields.specs.declared.parts.record.Placed.{Placed}
 use Rattle.jlr_trace_fields.specs.Objects.{ObjectCounts}
 use Rattle.jlr_trace_fields.specs.Records.{spelled_held, spelled_placed, PlacedCounts}
-use Rattle.jlr_trace_entries.specs.Images.{listed_from, placed, held, session_text, spelled_session}
+use Rattle.jlr_trace_entries.specs.Images.{listed_from, placed, handle_held, session_text, spelled_session}
 
 -- what stands at one place of a table
 abbrev pub spelled_place : {A B : Type 0} → (ℕ → A → B) → (B → List ℕ) → ℕ → Option A → List ℕ
@@ -17,7 +17,7 @@ spelled_place make spelled number None = []
 spelled_place make spelled number (Some x) = spelled (make number x)
 
 abbrev pub spelled_handles : List (Option ℕ) → List ℕ
-spelled_handles handles = spelled_list spelled_held (listed_from held 0 handles)
+spelled_handles handles = spelled_list spelled_held (listed_from handle_held 0 handles)
 
 abbrev pub spelled_objects : List (Option Object) → List Placed → List ℕ
 spelled_objects places strays = spelled_list spelled_placed (listed_from placed 0 places ++ strays)

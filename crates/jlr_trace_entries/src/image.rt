@@ -4,7 +4,8 @@ ghost use Rattle.std.specs.Int.{w32};
 ghost use Rattle.jlr_trace_fields.specs.Reading.{Reads, number_within_at, three_fields};
 ghost use Rattle.jlr_trace_fields.specs.Items.{items_at, rising_at};
 ghost use Rattle.jlr_trace_fields.specs.Records.{held_after};
-ghost use Rattle.jlr_trace_entries.specs.Images.{listed_from, placed, held, head_read, session_text, joined_read};
+ghost use Rattle.jlr_trace_entries.specs.Images.{listed_from, placed, handle_held, head_read, session_text};
+ghost use Rattle.jlr_trace_entries.specs.Images.{joined_read};
 ghost use Rattle.jlr_trace_entries.specs.Images.{session_read, waiting_read, records_read, counts_read, image_text};
 ghost use Rattle.jlr_trace_entries.specs.Images.{made_image, image_behind, image_read, places_of, HasPlaces, HasShape};
 ghost use Rattle.std.specs.List.{AllByRecursion};
@@ -98,9 +99,9 @@ fn head_at(bytes: &mut &[u8]) -> Result<Head, ReadError>
 }
 
 fn handles_at(alloc: Global, bytes: &mut &[u8]) -> Result<Table<Slot>, ReadError>
-    ensures reads { Reads (λ x. listed_from held 0 x) result bytes.new.now
+    ensures reads { Reads (λ x. listed_from handle_held 0 x) result bytes.new.now
         (rising_at 5 held_after (λ h. h.handle) bytes.old.now) }
-    ensures places { IfOk result (λ x. length x ≡ places_of (listed_from held 0 x)) }
+    ensures places { IfOk result (λ x. length x ≡ places_of (listed_from handle_held 0 x)) }
 {
     let held = take_rising(alloc, bytes)?;
     let places = held_places(alloc, held.as_slice())?;

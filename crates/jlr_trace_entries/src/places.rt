@@ -4,7 +4,7 @@ ghost use Rattle.jlr_trace_fields.specs.Reading.{Reads};
 ghost use Rattle.jlr_trace_fields.specs.Items.{Rises, rising_items_at, rising_at};
 ghost use Rattle.jlr_trace_fields.specs.Records.{placed_after};
 ghost use Rattle.std.specs.List.{AllByRecursion};
-ghost use Rattle.jlr_trace_entries.specs.Images.{listed_from, placed, held, places_of};
+ghost use Rattle.jlr_trace_entries.specs.Images.{listed_from, placed, handle_held, places_of};
 
 use jlr_machine::items::Items;
 use jlr_machine::object::Object;
@@ -45,7 +45,7 @@ fn pad<T: Drop>(places: &mut Vec<Option<T>>, upto: usize) -> Result<(), AllocErr
 /// The places of the handles: 251, and 256 where a handle is above 250.
 pub(crate) fn held_places(alloc: Global, items: &[Held]) -> Result<Vec<Option<Slot>>, AllocError>
     requires { Rises (λ h. h.handle) None items.now }
-    ensures listed { IfOk result (λ v. listed_from held 0 v.items ≡ items.now) }
+    ensures listed { IfOk result (λ v. listed_from handle_held 0 v.items ≡ items.now) }
     ensures sized { IfOk result (λ v. length v.items ≡ places_of items.now) }
 {
     let mut places: Vec<Option<Slot>> = Vec::new(alloc);

@@ -4,7 +4,8 @@ ghost use Rattle.std.specs.List.{flat_map, AllByRecursion};
 ghost use Rattle.jlr_machine.specs.Objects.{at, occupied};
 ghost use Rattle.jlr_trace_fields.specs.Spelling.{spelled_option};
 ghost use Rattle.jlr_trace_fields.specs.Records.{spelled_held, spelled_placed, PlacedCounts, spelled_call};
-ghost use Rattle.jlr_trace_entries.specs.Images.{listed_from, placed, held, spelled_head, head_of, spelled_waiting};
+ghost use Rattle.jlr_trace_entries.specs.Images.{listed_from, placed, handle_held, spelled_head, head_of};
+ghost use Rattle.jlr_trace_entries.specs.Images.{spelled_waiting};
 ghost use Rattle.jlr_trace_entries.specs.Images.{waiting_of, spelled_records, records_of, spelled_counts, counts_of};
 ghost use Rattle.jlr_trace_entries.specs.Images.{image_text, spelled_image, whole_image};
 ghost use Rattle.jlr_trace_entries.specs.Writing.{spelled_place, PlaceCounts, SessionCounts, spelled_handles};
@@ -33,7 +34,7 @@ fn count_some<T>(table: &Table<T>) -> usize
 fn put_held_at(out: &mut Vec<u8>, handles: &Table<Slot>, number: usize) -> Result<(), AllocError>
     requires { number < 256 }
     ensures { OnOk result (out.new.items ≡ out.old.items
-        ++ spelled_place held spelled_held number (at handles.now number)) }
+        ++ spelled_place handle_held spelled_held number (at handles.now number)) }
 {
     match handles.get(number) {
         Some(slot) => {
@@ -46,7 +47,8 @@ fn put_held_at(out: &mut Vec<u8>, handles: &Table<Slot>, number: usize) -> Resul
 
 fn put_held(out: &mut Vec<u8>, handles: &Table<Slot>) -> Result<(), AllocError>
     requires { length handles.now ≤ 256 }
-    ensures { OnOk result (out.new.items ≡ out.old.items ++ flat_map spelled_held (listed_from held 0 handles.now)) }
+    ensures { OnOk result (out.new.items ≡ out.old.items ++ flat_map spelled_held
+        (listed_from handle_held 0 handles.now)) }
 {
     for number in 0..handles.len() {
         put_held_at(out, handles, number)?;
@@ -57,7 +59,7 @@ fn put_held(out: &mut Vec<u8>, handles: &Table<Slot>) -> Result<(), AllocError>
 /// How many handles are in use.
 fn held_count(handles: &Table<Slot>) -> u32
     requires { length handles.now ≤ 256 }
-    ensures { result ≡ length (listed_from held 0 handles.now) }
+    ensures { result ≡ length (listed_from handle_held 0 handles.now) }
 {
     count_some(handles) as u32
 }

@@ -9,7 +9,8 @@ use Rattle.std.proofs.lemmas.Int.{ints, to_z-of_z, of_z-to_z}
 use Rattle.std.proofs.lemmas.List.{take_at, drop_at, take-append-drop, length-append, length-take}
 use Rattle.jlr_trace_fields.specs.declared.fault.Fault.{Fault}
 use Rattle.jlr_trace_fields.specs.declared.fault.Fault.TheVariants.{Short, Range}
-use Rattle.jlr_trace_fields.specs.Reading.{byte_at, byte_within_at, flag_at, option_at, number_at, number_within_at, picked_at, value_at}
+use Rattle.jlr_trace_fields.specs.Reading.{byte_at, byte_within_at, flag_at, option_at, number_at, number_within_at, picked_at}
+use Rattle.jlr_trace_fields.specs.Reading.{value_by_number}
 use Rattle.jlr_trace_fields.specs.Reading.{text_at}
 use Rattle.jlr_trace_fields.specs.Reading.{bytes_at, taken_at, signed_at}
 use Rattle.jlr_trace_fields.specs.Spelling.{spelled_8, spelled_32, spelled_flag, spelled_option, spelled_signed, spelled_text, no_slot}
@@ -197,7 +198,7 @@ named_at n (y ∷ table) name (suc k) x named e =
     let further : name x ≡ suc n + k = named_at (suc n) table name k x parts.1 e in
     omega arith
 
-value_is : {A : Type 0} (o : Option A) (bytes : List ℕ) (x : A) (rest : List ℕ) → value_at o bytes ≡ Ok (x, rest) → (o ≡ Some x)
+value_is : {A : Type 0} (o : Option A) (bytes : List ℕ) (x : A) (rest : List ℕ) → value_by_number o bytes ≡ Ok (x, rest) → (o ≡ Some x)
     × (bytes ≡ rest)
 value_is None bytes x rest e = absurd cc
 value_is {A} (Some y) bytes x rest e =
@@ -210,7 +211,7 @@ pub picked_takes : {A : Type 0} (first : ℕ) (table : List A) (name : A → ℕ
 unfolding picked_at
 picked_takes first table name named [] x rest fits e = absurd cc
 picked_takes first table name named (b ∷ bytes) x rest fits e =
-    let g = kept (ltb b first) Range (value_at (slice_get table (b - first)) bytes) (x, rest) e in
+    let g = kept (ltb b first) Range (value_by_number (slice_get table (b - first)) bytes) (x, rest) e in
     let v = value_is (slice_get table (b - first)) bytes x rest g.1 in
     let low : first ≤ b = ltb-false b first g.0 in
     let number : name x ≡ first + (b - first) = named_at first table name (b - first) x named v.0 in

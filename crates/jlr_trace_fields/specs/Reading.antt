@@ -89,14 +89,14 @@ option_at bytes = do
   if n.0 == no_slot then Ok (None, n.1) else Ok (Some n.0, n.1)
 
 -- one of the values of a table, named by its place, counted from a first number
-abbrev pub value_at : {A : Type 0} → Option A → List ℕ → Result (A × List ℕ) Fault
-value_at None rest = Err Range
-value_at (Some x) rest = Ok (x, rest)
+abbrev pub value_by_number : {A : Type 0} → Option A → List ℕ → Result (A × List ℕ) Fault
+value_by_number None rest = Err Range
+value_by_number (Some x) rest = Ok (x, rest)
 
 unfoldable pub picked_at : {A : Type 0} → ℕ → List A → List ℕ → Result (A × List ℕ) Fault
 picked_at first table bytes = do
   b ← byte_at bytes
-  if nat_lt b.0 first then Err Range else value_at (slice_get table (b.0 - first)) b.1
+  if nat_lt b.0 first then Err Range else value_by_number (slice_get table (b.0 - first)) b.1
 
 -- ---- Texts
 
@@ -116,5 +116,5 @@ bytes_at low high bytes = do
   taken_at count.0 count.1
 
 -- a small letter, a digit or an underscore
-abbrev pub is_name_byte : ℕ → Bool
-is_name_byte = names.is_name_byte
+abbrev pub is_name_letter : ℕ → Bool
+is_name_letter = names.is_name_byte

@@ -11,7 +11,7 @@ use Rattle.jlr_wire.proofs.Options.{bind_some, chosen, cond_some_of, and_parts}
 use Rattle.jlr_types.specs.declared.FieldKind.{FieldKind}
 use Rattle.jlr_types.specs.declared.FieldKind.TheVariants.{Int as IntField, Ref as RefField}
 use Rattle.jlr_wire.specs.Commands.{letter, layout}
-use Rattle.jlr_wire.specs.Reading.{kind_of, kinds_of, layout_of, ◌>>=◌}
+use Rattle.jlr_wire.specs.Reading.{kind_of_letter, kinds_of, layout_of, ◌>>=◌}
 
 pub spelled : (kinds : List FieldKind) (text : List ℕ) (n : ℕ) → length text ≤ n → 0 < length text → map letter kinds ≡ take n text
     → text ≡ layout kinds
@@ -54,7 +54,7 @@ layout_of_layout (kind ∷ kinds) le =
     rw (letters_no_dash kind kinds, some, short, kinds_of-letters (kind ∷ kinds)) refl
 
 -- a letter that has a kind is that kind's
-letter-kind_of : (c : ℕ) (kind : FieldKind) → kind_of c ≡ Some kind → c ≡ letter kind
+letter-kind_of : (c : ℕ) (kind : FieldKind) → kind_of_letter c ≡ Some kind → c ≡ letter kind
 letter-kind_of c kind e = elim (chosen (eqb c 114) (Some RefField) (cond (eqb c 105) (Some IntField) None) (Some kind) e) [
   | inl h ↦ eqb-true c 114 h.0 ∙ ap letter (same_Some RefField kind h.1)
   | inr h ↦ let i = cond_some (eqb c 105) IntField kind h.1 in eqb-true c 105 i.0 ∙ ap letter i.1
@@ -63,7 +63,7 @@ letter-kind_of c kind e = elim (chosen (eqb c 114) (Some RefField) (cond (eqb c 
 letters-kinds_of : (text : List ℕ) (kinds : List FieldKind) → kinds_of text ≡ Some kinds → text ≡ map letter kinds
 letters-kinds_of [] kinds e = let none : [] ≡ kinds = same_Some _ _ e in rw (← none) refl
 letters-kinds_of (c ∷ cs) kinds e =
-    let a = bind_some (kind_of c) (λ k. kinds_of cs >>= λ ks. Some (k ∷ ks)) kinds e in
+    let a = bind_some (kind_of_letter c) (λ k. kinds_of cs >>= λ ks. Some (k ∷ ks)) kinds e in
     let b = bind_some (kinds_of cs) (λ ks. Some (a.0 ∷ ks)) kinds a.2 in
     let first = letter-kind_of c a.0 a.1 in
     let rest = letters-kinds_of cs b.0 b.1 in

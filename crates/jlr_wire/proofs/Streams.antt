@@ -7,7 +7,7 @@ use Rattle.std.proofs.lemmas.Grind.{flat_map-append}
 use Rattle.std.proofs.lemmas.Bool.{cases_lt, le-ltb, lt-ltb}
 use Rattle.jlr_wire.specs.Lines.{HeldLine, begun, nothing_held, AreLines, IsInLine, ended_lines}
 use Rattle.jlr_wire.specs.Feeding.{Continues, EndsHeldLine, Feeds}
-use Rattle.jlr_wire.specs.Stream.{Call, Follow, ReadsLines, Shown, shown, shown_by_call, shown_by_calls, used_bytes, held_after}
+use Rattle.jlr_wire.specs.Stream.{Call, Follow, ReadsLines, Shown, shown_line, shown_by_call, shown_by_calls, used_bytes, held_after}
 use Rattle.jlr_wire.specs.declared.pieces.Got.{Got}
 use Rattle.jlr_wire.specs.declared.pieces.Got.TheVariants.{More, Line, TooLong}
 
@@ -105,12 +105,12 @@ reads_line too_long fits done seen old bytes used new r h size =
     let line = r.last ++ h.front in
     let ends = line_ends fits done r.last r.lines old bytes used new r.are r.holds h in
     let show : Shown = record { bytes = new.bytes; too_long = too_long } in
-    let same : show ≡ shown line = rw (ends.2, size) refl in
+    let same : show ≡ shown_line line = rw (ends.2, size) refl in
     record {
       lines = r.lines ++ line ∷ [];
       last = [];
       are = ends.0;
-      shows = ap (λ s. seen ++ s ∷ []) same ∙ ap (λ s. s ++ shown line ∷ []) r.shows ∙ sym (map-append shown r.lines (line ∷ []));
+      shows = ap (λ s. seen ++ s ∷ []) same ∙ ap (λ s. s ++ shown_line line ∷ []) r.shows ∙ sym (map-append shown_line r.lines (line ∷ []));
       holds = ends.3;
     }
 

@@ -28,13 +28,13 @@ abbrev pub length_of : List ℕ → Option ℕ
 length_of text = number_below 4097 text >>= λ n. cond (nat_le 1 n) (Some n) None
 
 -- the kind that a letter stands for
-abbrev pub kind_of : ℕ → Option FieldKind
-kind_of c = cond (eqb c 114) (Some RefField) (cond (eqb c 105) (Some IntField) None)
+abbrev pub kind_of_letter : ℕ → Option FieldKind
+kind_of_letter c = cond (eqb c 114) (Some RefField) (cond (eqb c 105) (Some IntField) None)
 
 -- the kinds that letters stand for
 abbrev pub kinds_of : List ℕ → Option (List FieldKind)
 kinds_of [] = Some []
-kinds_of (c ∷ cs) = kind_of c >>= λ k. kinds_of cs >>= λ ks. Some (k ∷ ks)
+kinds_of (c ∷ cs) = kind_of_letter c >>= λ k. kinds_of cs >>= λ ks. Some (k ∷ ks)
 
 -- the layout that a text spells
 unfoldable pub layout_of : List ℕ → Option (List FieldKind)
@@ -79,9 +79,9 @@ names_with_two a b =
     ∷ []
 
 -- the command that stands beside a name
-abbrev pub named : List ℕ → List (List ℕ × Command) → Option Command
-named name [] = None
-named name (row ∷ table) = cond (bytes_eq name row.0) (Some row.1) (named name table)
+abbrev pub command_named : List ℕ → List (List ℕ × Command) → Option Command
+command_named name [] = None
+command_named name (row ∷ table) = cond (bytes_eq name row.0) (Some row.1) (command_named name table)
 
 -- what stands beside a name, or where it is none of these the other
 abbrev pub among : List ℕ → List (List ℕ × Option Command) → Option Command → Option Command
@@ -109,14 +109,14 @@ names_with_words a b =
     ∷ []
 
 unfoldable pub with_number : List ℕ → ℕ → Option Command
-with_number name a = named name (names_with_number a)
+with_number name a = command_named name (names_with_number a)
 
 unfoldable pub with_two_numbers : List ℕ → ℕ → ℕ → Option Command
-with_two_numbers name a b = named name (names_with_two a b)
+with_two_numbers name a b = command_named name (names_with_two a b)
 
 -- the command of one field, of two, of three, of four
 unfoldable pub reading_1 : List ℕ → Option Command
-reading_1 name = named name names_alone
+reading_1 name = command_named name names_alone
 
 unfoldable pub reading_2 : List ℕ → List ℕ → Option Command
 reading_2 name a =

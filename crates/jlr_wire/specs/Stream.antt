@@ -28,8 +28,8 @@ pub record Shown : Type 0 where
   pub too_long : Bool
 
 -- what shows of a line
-abbrev pub shown : List ℕ → Shown
-shown line = record { bytes = take 513 line; too_long = nat_lt 512 (length line) }
+abbrev pub shown_line : List ℕ → Shown
+shown_line line = record { bytes = take 513 line; too_long = nat_lt 512 (length line) }
 
 -- what a call shows of the line that it ended, if it ended one
 abbrev pub shown_by_call : Got → HeldLine → List Shown
@@ -51,7 +51,7 @@ pub record ReadsLines (bytes : List ℕ) (seen : List Shown) (held : HeldLine) :
   pub lines : List (List ℕ)
   pub last : List ℕ
   pub are : AreLines bytes lines last
-  pub shows : seen ≡ map shown lines
+  pub shows : seen ≡ map shown_line lines
   pub holds : begun held ≡ take 513 last
 
 -- the lines of a stream do not depend on the pieces in which it comes

@@ -15,12 +15,12 @@ abbrev pub IsPathText : List ℕ → Type 0
 IsPathText = IsWord 255 is_ascii_graphic
 
 -- a small letter, a digit or an underscore
-abbrev pub is_name_byte : ℕ → Bool
-is_name_byte b = is_ascii_lowercase b || is_ascii_digit b || eqb b 95
+abbrev pub is_name_char : ℕ → Bool
+is_name_char b = is_ascii_lowercase b || is_ascii_digit b || eqb b 95
 
 -- the name of an object
 abbrev pub IsNameText : List ℕ → Type 0
-IsNameText = IsWord 32 is_name_byte
+IsNameText = IsWord 32 is_name_char
 
 -- The bytes of a write, and their hexadecimal digits in either case.
 pub record AreDigits (digits bytes : List ℕ) : Type 0 where

@@ -10,14 +10,14 @@ ghost use Rattle.jlr_machine.specs.Objects.{with_cleanable, with_field, with_mem
 ghost use Rattle.jlr_machine.specs.Refusals.{is_cleanable, is_guard, is_plain, is_queue, is_record, is_reference};
 ghost use Rattle.jlr_machine.specs.Calls.{spent, unreferred};
 ghost use Rattle.jlr_cells.specs.Contents.{field_at, is_ref, in_clean_state, in_state, kind_of, member_in, members_in};
-ghost use Rattle.jlr_cells.specs.Contents.{object_of, referent_in, unregistered, watching, without_referent};
+ghost use Rattle.jlr_cells.specs.Contents.{object_of, referent_in, unregistered, watching, cleanable_without_referent};
 ghost use Rattle.jlr_machine.specs.declared.object.Object.TheVariants.{Plain};
 ghost use Rattle.jlr_machine.specs.declared.object.Contents.TheVariants.{Elements as ElementsOf};
 ghost use Rattle.jlr_cells.specs.Links.{linked, linked_in, no_links};
 ghost use Rattle.jlr_cells.specs.Visits.{edges_told, elements_lent, elements_of};
 ghost use Rattle.jlr_sets.specs.SlotSets.{is_in};
 ghost use Rattle.jlr_cells.specs.Showing.{shown};
-ghost use Rattle.jlr_cells.specs.Holding.{all_free, in_use};
+ghost use Rattle.jlr_cells.specs.Holding.{all_free, cells_in_use};
 
 use crate::objects::arrays::{free_array, free_arrays};
 use crate::objects::lists::clear_lists;
@@ -85,7 +85,7 @@ impl Objects {
 
     /// How many cells are free: they hold no object, and are not condemned.
     pub fn free_count(&self) -> u32
-        ensures { result + in_use self.now ≡ length self.now.objects }
+        ensures { result + cells_in_use self.now ≡ length self.now.objects }
     {
         self.occupancy.free_count()
     }
@@ -105,7 +105,7 @@ impl Objects {
         ensures free { IfSome result (λ slot. (slot < length self.old.objects) × (at self.old.objects slot ≡ None)) }
         ensures taken { IfSome result (λ slot. self.new.objects ≡ set_at self.old.objects slot (object_of shape)) }
         ensures condemned { IfSome result (λ _. self.new.condemned
-            ≡ cond (in_use self.old == length self.old.objects) 0 self.old.condemned) }
+            ≡ cond (cells_in_use self.old == length self.old.objects) 0 self.old.condemned) }
     {
         if !self.make_free() {
             return None;
@@ -126,7 +126,7 @@ impl Objects {
         ensures taken { IfOk result (λ slot. self.new.objects
             ≡ set_at self.old.objects slot (Plain (ElementsOf elements))) }
         ensures condemned { IfOk result (λ _. self.new.condemned
-            ≡ cond (in_use self.old == length self.old.objects) 0 self.old.condemned) }
+            ≡ cond (cells_in_use self.old == length self.old.objects) 0 self.old.condemned) }
     {
         if !self.make_free() {
             return Err(elements);
@@ -139,9 +139,9 @@ impl Objects {
     /// Where no cell is free, all that are condemned are swept. Answers whether a cell is free then.
     fn make_free(&mut self) -> bool
         ensures objects { self.new.objects ≡ self.old.objects }
-        ensures condemned { self.new.condemned ≡ cond (in_use self.old == length self.old.objects) 0
+        ensures condemned { self.new.condemned ≡ cond (cells_in_use self.old == length self.old.objects) 0
             self.old.condemned }
-        ensures room { result ≡ true → in_use self.new < length self.new.objects }
+        ensures room { result ≡ true → cells_in_use self.new < length self.new.objects }
         ensures full { result ≡ false → (occupied self.old.objects ≡ length self.old.objects) × (self.new ≡ self.old) }
     {
         if self.free_count() > 0 {
@@ -157,7 +157,7 @@ impl Objects {
         requires places { length kept.now ≡ length self.old.objects }
         requires objects { (s : ℕ) → is_in kept.now s ≡ true → IsTrue (is_some (at self.old.objects s)) }
         ensures objects { self.new.objects ≡ shown kept.now self.old.objects }
-        ensures condemned { in_use self.new ≡ in_use self.old }
+        ensures condemned { cells_in_use self.new ≡ cells_in_use self.old }
     {
         clear_lists(&mut self.store, &mut self.listed, kept);
         self.occupancy.keep(kept);
@@ -384,7 +384,7 @@ impl Objects {
     /// The cleanable at a slot loses its referent.
     pub fn clear_cleanable(&mut self, slot: Slot)
         requires { IsTrue (some_and is_cleanable (at self.old.objects slot)) }
-        ensures objects { self.new.objects ≡ change_at self.old.objects slot (with_cleanable without_referent) }
+        ensures objects { self.new.objects ≡ change_at self.old.objects slot (with_cleanable cleanable_without_referent) }
         ensures condemned { self.new.condemned ≡ self.old.condemned }
     {
         self.store.clear_cleanable(slot);

@@ -1,7 +1,7 @@
 //! The cells that hold an object, and those that are condemned.
 ghost use Rattle.std.specs.Prelude.{◌≡◌, ℕ, ◌+◌, ◌<◌, false, true, length, IfOk, slice_set};
 ghost use Rattle.jlr_sets.specs.SlotSets.{is_in, slots_of};
-ghost use Rattle.jlr_cells.specs.Occupying.{all_free, taken};
+ghost use Rattle.jlr_cells.specs.Occupying.{none_occupied, taken};
 
 use crate::objects::search::{condemned_cell, free_cell};
 use jlr_sets::cell_set::CellSet;
@@ -42,7 +42,7 @@ impl Occupancy {
     /// # Errors
     /// `AllocError` where there is no memory for them.
     pub(crate) fn new(alloc: Global, cells: u32) -> Result<Self, AllocError>
-        ensures { IfOk result (λ o. o ≡ all_free cells) }
+        ensures { IfOk result (λ o. o ≡ none_occupied cells) }
     {
         Ok(Occupancy {
             occupied: CellSet::new(alloc, cells)?,

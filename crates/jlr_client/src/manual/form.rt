@@ -2,7 +2,7 @@
 ghost use Rattle.std.specs.Prelude.{◌≡◌};
 ghost use Rattle.std.specs.List.{Contains};
 ghost use Rattle.jlr_client.specs.declared.manual.form.Form.{Form as FormOf};
-ghost use Rattle.jlr_client.specs.Forms.{name_of, operands_of};
+ghost use Rattle.jlr_client.specs.Forms.{word_of_form, operands_of};
 ghost use Rattle.jlr_client.specs.Refusals.{refusals_of};
 
 use crate::manual::operand::Operand;
@@ -138,7 +138,7 @@ pub fn forms() -> &'static [Form]
 impl Form {
     /// The word with which a command begins.
     pub fn name(self) -> &'static str
-        ensures { result.now ≡ name_of self }
+        ensures { result.now ≡ word_of_form self }
     {
         match self {
             Form::New => "new",

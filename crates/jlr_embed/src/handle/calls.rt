@@ -2,7 +2,8 @@
 ghost use Rattle.std.specs.Prelude.{◌≡◌, MatchOption, IfSome, None, Some, false, is_none, true};
 ghost use Rattle.jlr_event.specs.Events.{ask_of};
 ghost use Rattle.jlr_core.specs.Events.{carries_none};
-ghost use Rattle.jlr_embed.specs.Kinds.{is_faults, is_handle, is_integer, is_job, is_names, is_notes, is_out, is_stat};
+ghost use Rattle.jlr_embed.specs.Kinds.{is_faults, is_handle, is_integer, is_job_answer, is_names, is_notes, is_lent};
+ghost use Rattle.jlr_embed.specs.Kinds.{is_stat};
 ghost use Rattle.jlr_embed.specs.Kinds.{is_told, is_truth, kind_asked, suits};
 ghost use Rattle.jlr_embed.specs.Calls.{HandsOverOnce, Marks};
 ghost use Rattle.jlr_embed.specs.OneEvent.{AskedOnce, Carried};
@@ -231,7 +232,7 @@ pub fn adopts(alloc: Global, heap: &mut Heap, event: Event<u64>, out: &mut u8) -
 
 /// A call that tells a job.
 pub fn takes(alloc: Global, heap: &mut Heap, event: Event<u64>, out: &mut Taken) -> u32
-    requires kind { kind_asked (ask_of event) ≡ is_job }
+    requires kind { kind_asked (ask_of event) ≡ is_job_answer }
     requires asks { is_none (ask_of event) ≡ false }
     ensures { GivesJob heap.old.value event result out.old out.new heap.new.value }
 {
@@ -243,7 +244,7 @@ pub fn takes(alloc: Global, heap: &mut Heap, event: Event<u64>, out: &mut Taken)
 
 /// A call that gives a token out.
 pub fn lends(alloc: Global, heap: &mut Heap, event: Event<u64>, out: &mut u64) -> u32
-    requires kind { kind_asked (ask_of event) ≡ is_out }
+    requires kind { kind_asked (ask_of event) ≡ is_lent }
     requires asks { is_none (ask_of event) ≡ false }
     ensures { GivesToken heap.old.value event result out.old out.new heap.new.value }
 {

@@ -18,9 +18,9 @@ pub struct Heap {
 }
 
 impl Model for Heap {
-    ghost use Rattle.jlr_embed.specs.Held.{held};
+    ghost use Rattle.jlr_embed.specs.Held.{heap_held};
 
-    ghost also_owns = { λ h. held h.alloc h.at h.value };
+    ghost also_owns = { λ h. heap_held h.alloc h.at h.value };
 }
 
 impl Heap {

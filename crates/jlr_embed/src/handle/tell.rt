@@ -1,11 +1,12 @@
 //! How an answer is told.
 ghost use Rattle.std.specs.Prelude.{◌≡◌, ◌≤◌, false, length, true};
 ghost use Rattle.jlr_types.specs.Numbers.{number_of};
-ghost use Rattle.jlr_embed.specs.Kinds.{is_stat, is_faults, is_handle, is_integer, is_job, is_names, is_notes, is_out};
-ghost use Rattle.jlr_embed.specs.Kinds.{is_refused, is_told, is_truth, job_suits, suits};
+ghost use Rattle.jlr_embed.specs.Kinds.{is_stat, is_faults, is_handle, is_integer, is_job_answer, is_names, is_notes};
+ghost use Rattle.jlr_embed.specs.Kinds.{is_lent};
+ghost use Rattle.jlr_embed.specs.Kinds.{is_refused_answer, is_told, is_truth, job_suits, suits};
 ghost use Rattle.jlr_embed.specs.Tells.{TellsCounts, TellsEnd, TellsFault, TellsHanded, TellsHandle, TellsInteger};
 ghost use Rattle.jlr_embed.specs.Tells.{TellsJob, TellsName, TellsNote, TellsProgress, TellsToken, TellsTruth};
-ghost use Rattle.jlr_embed.specs.Tells.{TellsWork, fault_number, fault_numbered, holds_memory};
+ghost use Rattle.jlr_embed.specs.Tells.{TellsWork, fault_status, fault_numbered, holds_memory};
 ghost use Rattle.jlr_embed.specs.Tells.{outcome_numbered, padded};
 
 use crate::handle::out::{Counts, Failed, Taken};
@@ -40,7 +41,7 @@ fn refused(by: Refusal) -> u32
 /// The number of the refusal that an answer is.
 #[inline(never)]
 fn refusal(answer: Answer) -> u32
-    requires { is_refused answer ≡ true }
+    requires { is_refused_answer answer ≡ true }
     ensures { TellsEnd result answer }
 {
     match answer {
@@ -147,7 +148,7 @@ pub(crate) fn progress(came: Progress, done: &mut bool) -> u32
 
 /// A job, with the token that goes out with it.
 pub(crate) fn job(answer: &Answer, token: Option<u64>, out: &mut Taken) -> u32
-    requires kind { is_told is_job answer.now ≡ true }
+    requires kind { is_told is_job_answer answer.now ≡ true }
     requires suits { suits answer.now token ≡ true }
     ensures { TellsJob result out.old out.new answer.now token }
 {
@@ -183,7 +184,7 @@ fn taken(action: ActionNo, work: Work, token: Option<u64>, out: &mut Taken) -> u
 
 /// The token that goes out for a call.
 pub(crate) fn token(answer: &Answer, token: Option<u64>, out: &mut u64) -> u32
-    requires kind { is_told is_out answer.now ≡ true }
+    requires kind { is_told is_lent answer.now ≡ true }
     requires suits { suits answer.now token ≡ true }
     ensures { TellsToken result out.old out.new answer.now token }
 {
@@ -268,7 +269,7 @@ pub(crate) fn failure(answer: &Answer, index: usize, out: &mut Failed) -> u32
 
 /// The number of a fault.
 fn number_of(fault: Fault) -> u32
-    ensures { result ≡ fault_number fault }
+    ensures { result ≡ fault_status fault }
 {
     match fault {
         Fault::NotFound => 1,

@@ -8,7 +8,7 @@ ghost use Rattle.jlr_machine.specs.declared.ask.Answer.TheVariants.{AlreadyDone,
 ghost use Rattle.jlr_machine.specs.Calls.{call_answer};
 ghost use Rattle.jlr_laws.specs.Same.{same_answer, same_truth, same_fault, same_work, same_handed, same_failure};
 ghost use Rattle.jlr_laws.specs.Same.{same_stat};
-ghost use Rattle.jlr_plain_asks.specs.Names.{names_of};
+ghost use Rattle.jlr_plain_asks.specs.Names.{bound_names};
 
 use jlr_machine::ask::{Answer, CallOutcome, Handed, Stat};
 use jlr_machine::machine::{Binding, Failure};
@@ -112,7 +112,7 @@ fn notes_agree(left: &[u32], right: &[u32]) -> bool
 }
 
 fn all_names_agree(left: &[Name], right: &[Binding]) -> bool
-    ensures { result ≡ pointwise bytes_eq left.now (names_of right.now) }
+    ensures { result ≡ pointwise bytes_eq left.now (bound_names right.now) }
 {
     if left.len() != right.len() {
         return false;
@@ -200,7 +200,7 @@ pub fn is_outcome(answer: &Answer, outcome: &CallOutcome) -> bool
 }
 
 pub fn is_names(answer: &Answer, names: &[Binding]) -> bool
-    ensures { result ≡ same_answer answer.now (Names (names_of names.now)) }
+    ensures { result ≡ same_answer answer.now (Names (bound_names names.now)) }
 {
     match answer {
         Answer::Names(x) => all_names_agree(x.as_slice(), names),

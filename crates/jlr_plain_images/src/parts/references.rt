@@ -4,7 +4,7 @@ ghost use Rattle.std.specs.List.{list_all};
 ghost use Rattle.jlr_machine.specs.Objects.{at, some_and};
 ghost use Rattle.jlr_machine.specs.WellFormed.{AreReferences};
 ghost use Rattle.jlr_plain_images.specs.References.{fits_own_state, states_fit, is_queued_object, members_fit};
-ghost use Rattle.jlr_plain_images.specs.References.{queues_fit, members_in, is_disjoint, shares_nothing};
+ghost use Rattle.jlr_plain_images.specs.References.{queues_fit, queue_members, is_disjoint, shares_nothing};
 ghost use Rattle.jlr_plain_images.specs.References.{queues_are_apart, references_fit};
 
 use jlr_machine::machine::Machine;
@@ -74,7 +74,7 @@ fn members_are_queued(machine: &Machine) -> bool
 
 /// The members of the queue there, if it is one.
 fn members_at(machine: &Machine, slot: usize) -> &[Slot]
-    ensures { result.now ≡ members_in (at machine.now.objects slot) }
+    ensures { result.now ≡ queue_members (at machine.now.objects slot) }
 {
     match machine.objects.get(slot) {
         Some(Object::Queue(members)) => members.as_slice(),

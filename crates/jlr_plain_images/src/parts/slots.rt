@@ -7,7 +7,7 @@ ghost use Rattle.jlr_machine.specs.Edges.{slot_in};
 ghost use Rattle.jlr_machine.specs.Refusals.{is_queue};
 ghost use Rattle.jlr_machine.specs.WellFormed.{AreSlotsNamed};
 ghost use Rattle.jlr_plain_images.specs.Places.{none_or, on_reference, on_guard};
-ghost use Rattle.jlr_plain_images.specs.Slots.{is_there, fields_there, edges_there, session_there, roots_there};
+ghost use Rattle.jlr_plain_images.specs.Slots.{has_object_at, fields_there, edges_there, session_there, roots_there};
 ghost use Rattle.jlr_plain_images.specs.Slots.{queue_there, cleanable_there, slots_fit};
 
 use jlr_machine::machine::{Binding, Machine, Session};
@@ -16,14 +16,14 @@ use jlr_plain_asks::lookups::{object_at, queue_of, referred};
 use jlr_types::{FieldValue, Slot};
 
 fn object_there(machine: &Machine, slot: Slot) -> bool
-    ensures { result ≡ is_there machine.now.objects slot }
+    ensures { result ≡ has_object_at machine.now.objects slot }
 {
     object_at(machine, slot).is_some()
 }
 
 /// Whether what this names is there, if it names something.
 fn any_there(machine: &Machine, slot: Option<Slot>) -> bool
-    ensures { result ≡ none_or (is_there machine.now.objects) slot }
+    ensures { result ≡ none_or (has_object_at machine.now.objects) slot }
 {
     match slot {
         Some(slot) => object_there(machine, slot),
@@ -32,14 +32,14 @@ fn any_there(machine: &Machine, slot: Option<Slot>) -> bool
 }
 
 fn all_there(machine: &Machine, slots: &[Slot]) -> bool
-    ensures { result ≡ list_all (is_there machine.now.objects) slots.now }
+    ensures { result ≡ list_all (has_object_at machine.now.objects) slots.now }
 {
     slots.iter().all(|&slot| object_there(machine, slot))
 }
 
 /// Whether all that the fields refer to is there.
 fn typed_there(machine: &Machine, fields: &[FieldValue]) -> bool
-    ensures { result ≡ list_all (λ f. none_or (is_there machine.now.objects) (slot_in f)) fields.now }
+    ensures { result ≡ list_all (λ f. none_or (has_object_at machine.now.objects) (slot_in f)) fields.now }
 {
     fields
         .iter()
@@ -48,7 +48,7 @@ fn typed_there(machine: &Machine, fields: &[FieldValue]) -> bool
 
 /// Whether each of the slots is there that is not null.
 fn all_or_null_there(machine: &Machine, slots: &[Option<Slot>]) -> bool
-    ensures { result ≡ list_all (none_or (is_there machine.now.objects)) slots.now }
+    ensures { result ≡ list_all (none_or (has_object_at machine.now.objects)) slots.now }
 {
     slots.iter().all(|&slot| any_there(machine, slot))
 }
@@ -110,7 +110,7 @@ fn sessions_name_objects(machine: &Machine) -> bool
 }
 
 fn names_there(machine: &Machine, names: &[Binding]) -> bool
-    ensures { result ≡ list_all (λ b. is_there machine.now.objects b.slot) names.now }
+    ensures { result ≡ list_all (λ b. has_object_at machine.now.objects b.slot) names.now }
 {
     names
         .iter()

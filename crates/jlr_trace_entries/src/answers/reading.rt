@@ -11,7 +11,7 @@ ghost use Rattle.jlr_trace_entries.specs.declared.answers.tag.Tag.TheVariants.{S
 ghost use Rattle.jlr_trace_entries.specs.declared.answers.tag.Tag.TheVariants.{Prepared as TagPrepared, Out as TagOut};
 ghost use Rattle.jlr_trace_entries.specs.declared.answers.tag.Tag.TheVariants.{Handed as TagHanded};
 ghost use Rattle.jlr_trace_entries.specs.declared.answers.tag.Tag.TheVariants.{Refused as TagRefused};
-ghost use Rattle.jlr_trace_entries.specs.Answers.{answer_read, body_of};
+ghost use Rattle.jlr_trace_entries.specs.Answers.{answer_read, answer_body};
 
 use crate::answers::detail::{handed_at, refusal_at, stat_at};
 use crate::answers::tag::{Tag, tag_at};
@@ -27,77 +27,77 @@ use jlr_trace_fields::parts::tables::take_fault;
 use std::alloc::Global;
 
 fn handle_answer(bytes: &mut &[u8]) -> Result<Answer, ReadError>
-    ensures { Reads (λ x. x) result bytes.new.now (body_of TagHandle bytes.old.now) }
+    ensures { Reads (λ x. x) result bytes.new.now (answer_body TagHandle bytes.old.now) }
 {
     let body = take_handle(bytes)?;
     Ok(Answer::Handle(body))
 }
 
 fn truth_answer(bytes: &mut &[u8]) -> Result<Answer, ReadError>
-    ensures { Reads (λ x. x) result bytes.new.now (body_of TagTruth bytes.old.now) }
+    ensures { Reads (λ x. x) result bytes.new.now (answer_body TagTruth bytes.old.now) }
 {
     let body = take_flag(bytes)?;
     Ok(Answer::Truth(body))
 }
 
 fn int_answer(bytes: &mut &[u8]) -> Result<Answer, ReadError>
-    ensures { Reads (λ x. x) result bytes.new.now (body_of TagInt bytes.old.now) }
+    ensures { Reads (λ x. x) result bytes.new.now (answer_body TagInt bytes.old.now) }
 {
     let body = take_i64(bytes)?;
     Ok(Answer::Int(body))
 }
 
 fn data_answer(alloc: Global, bytes: &mut &[u8]) -> Result<Answer, ReadError>
-    ensures { Reads (λ x. x) result bytes.new.now (body_of TagData bytes.old.now) }
+    ensures { Reads (λ x. x) result bytes.new.now (answer_body TagData bytes.old.now) }
 {
     let body = take_data(alloc, bytes)?;
     Ok(Answer::Data(body))
 }
 
 fn wrote_answer(bytes: &mut &[u8]) -> Result<Answer, ReadError>
-    ensures { Reads (λ x. x) result bytes.new.now (body_of TagWrote bytes.old.now) }
+    ensures { Reads (λ x. x) result bytes.new.now (answer_body TagWrote bytes.old.now) }
 {
     let body = take_within(0, 200, bytes)?;
     Ok(Answer::Wrote(WriteCount::new(body).unwrap()))
 }
 
 fn faulted_answer(bytes: &mut &[u8]) -> Result<Answer, ReadError>
-    ensures { Reads (λ x. x) result bytes.new.now (body_of TagFaulted bytes.old.now) }
+    ensures { Reads (λ x. x) result bytes.new.now (answer_body TagFaulted bytes.old.now) }
 {
     let body = take_fault(bytes)?;
     Ok(Answer::Faulted(body))
 }
 
 fn names_answer(alloc: Global, bytes: &mut &[u8]) -> Result<Answer, ReadError>
-    ensures { Reads (λ x. x) result bytes.new.now (body_of TagNames bytes.old.now) }
+    ensures { Reads (λ x. x) result bytes.new.now (answer_body TagNames bytes.old.now) }
 {
     let body = take_list(alloc, bytes)?;
     Ok(Answer::Names(body))
 }
 
 fn notes_answer(alloc: Global, bytes: &mut &[u8]) -> Result<Answer, ReadError>
-    ensures { Reads (λ x. x) result bytes.new.now (body_of TagNotes bytes.old.now) }
+    ensures { Reads (λ x. x) result bytes.new.now (answer_body TagNotes bytes.old.now) }
 {
     let body = take_list(alloc, bytes)?;
     Ok(Answer::Notes(body))
 }
 
 fn faults_answer(alloc: Global, bytes: &mut &[u8]) -> Result<Answer, ReadError>
-    ensures { Reads (λ x. x) result bytes.new.now (body_of TagFaults bytes.old.now) }
+    ensures { Reads (λ x. x) result bytes.new.now (answer_body TagFaults bytes.old.now) }
 {
     let body = take_list(alloc, bytes)?;
     Ok(Answer::Faults(body))
 }
 
 fn stat_answer(bytes: &mut &[u8]) -> Result<Answer, ReadError>
-    ensures { Reads (λ x. x) result bytes.new.now (body_of TagStat bytes.old.now) }
+    ensures { Reads (λ x. x) result bytes.new.now (answer_body TagStat bytes.old.now) }
 {
     let body = stat_at(bytes)?;
     Ok(Answer::Stat(body))
 }
 
 fn job_answer(bytes: &mut &[u8]) -> Result<Answer, ReadError>
-    ensures { Reads (λ x. x) result bytes.new.now (body_of TagJob bytes.old.now) }
+    ensures { Reads (λ x. x) result bytes.new.now (answer_body TagJob bytes.old.now) }
 {
     let action = take_action(bytes)?;
     let work = take_work(bytes)?;
@@ -105,28 +105,28 @@ fn job_answer(bytes: &mut &[u8]) -> Result<Answer, ReadError>
 }
 
 fn prepared_answer(bytes: &mut &[u8]) -> Result<Answer, ReadError>
-    ensures { Reads (λ x. x) result bytes.new.now (body_of TagPrepared bytes.old.now) }
+    ensures { Reads (λ x. x) result bytes.new.now (answer_body TagPrepared bytes.old.now) }
 {
     let body = take_rid(bytes)?;
     Ok(Answer::Prepared(body))
 }
 
 fn out_answer(bytes: &mut &[u8]) -> Result<Answer, ReadError>
-    ensures { Reads (λ x. x) result bytes.new.now (body_of TagOut bytes.old.now) }
+    ensures { Reads (λ x. x) result bytes.new.now (answer_body TagOut bytes.old.now) }
 {
     let body = take_rid(bytes)?;
     Ok(Answer::Out(body))
 }
 
 fn handed_answer(bytes: &mut &[u8]) -> Result<Answer, ReadError>
-    ensures { Reads (λ x. x) result bytes.new.now (body_of TagHanded bytes.old.now) }
+    ensures { Reads (λ x. x) result bytes.new.now (answer_body TagHanded bytes.old.now) }
 {
     let body = handed_at(bytes)?;
     Ok(Answer::Handed(body))
 }
 
 fn refused_answer(bytes: &mut &[u8]) -> Result<Answer, ReadError>
-    ensures { Reads (λ x. x) result bytes.new.now (body_of TagRefused bytes.old.now) }
+    ensures { Reads (λ x. x) result bytes.new.now (answer_body TagRefused bytes.old.now) }
 {
     let body = refusal_at(bytes)?;
     Ok(Answer::Refused(body))

@@ -1,7 +1,7 @@
 //! Which answer it is.
 ghost use Rattle.std.specs.Prelude.{◌≡◌};
 ghost use Rattle.jlr_trace_fields.specs.Reading.{Reads, picked_at};
-ghost use Rattle.jlr_trace_entries.specs.Answers.{tags};
+ghost use Rattle.jlr_trace_entries.specs.Answers.{answer_tags};
 
 use jlr_trace_fields::cursor::take_picked;
 use jlr_trace_fields::fault::ReadError;
@@ -30,7 +30,7 @@ pub(crate) enum Tag {
 
 /// Which answer it is.
 pub(crate) fn tag_at(bytes: &mut &[u8]) -> Result<Tag, ReadError>
-    ensures { Reads (λ x. x) result bytes.new.now (picked_at 0 tags bytes.old.now) }
+    ensures { Reads (λ x. x) result bytes.new.now (picked_at 0 answer_tags bytes.old.now) }
 {
     let table = [
         Tag::Done,

@@ -2,7 +2,8 @@
 ghost use Rattle.std.specs.Prelude.{◌≡◌, ◌++◌, OnOk};
 ghost use Rattle.jlr_trace_fields.specs.Spelling.{spelled_8};
 ghost use Rattle.jlr_trace_fields.specs.Reading.{Reads, picked_at};
-ghost use Rattle.jlr_trace_entries.specs.Asks.{outcomes, outcome_number, modes, mode_number, call_outcome_read};
+ghost use Rattle.jlr_trace_entries.specs.Asks.{outcomes_by_number, outcome_number, modes, mode_number};
+ghost use Rattle.jlr_trace_entries.specs.Asks.{call_outcome_read};
 ghost use Rattle.jlr_trace_entries.specs.Asks.{spelled_call_outcome};
 
 use jlr_machine::ask::{CallOutcome, FullMode, Outcome};
@@ -17,7 +18,7 @@ use std::alloc::{AllocError, Global};
 
 /// How an open or a job ended.
 pub(crate) fn outcome_at(bytes: &mut &[u8]) -> Result<Outcome, ReadError>
-    ensures { Reads (λ x. x) result bytes.new.now (picked_at 0 outcomes bytes.old.now) }
+    ensures { Reads (λ x. x) result bytes.new.now (picked_at 0 outcomes_by_number bytes.old.now) }
 {
     let table = [
         Outcome::Ok,

@@ -9,9 +9,10 @@ ghost use Rattle.jlr_machine.specs.declared.ask.Ask.TheVariants.{Close, Finish, 
 ghost use Rattle.jlr_machine.specs.declared.ask.Ask.TheVariants.{Notes, Faults};
 ghost use Rattle.jlr_trace_fields.specs.Reading.{Reads, one_field, two_fields, three_fields, four_fields, byte_at};
 ghost use Rattle.jlr_trace_fields.specs.Reading.{number_at};
-ghost use Rattle.jlr_trace_fields.specs.Reading.{signed_at, picked_at, text_at, is_name_byte};
+ghost use Rattle.jlr_trace_fields.specs.Reading.{signed_at, picked_at, text_at, is_name_letter};
 ghost use Rattle.jlr_trace_fields.specs.Tables.{ref_kinds};
-ghost use Rattle.jlr_trace_entries.specs.Asks.{outcomes, modes, layout_read, call_outcome_read, field_read, array_read};
+ghost use Rattle.jlr_trace_entries.specs.Asks.{outcomes_by_number, modes, layout_read, call_outcome_read, field_read};
+ghost use Rattle.jlr_trace_entries.specs.Asks.{array_read};
 ghost use Rattle.jlr_trace_entries.specs.Asks.{ask_read};
 
 use crate::asks::field::{field_at, length_at};
@@ -261,7 +262,8 @@ fn prepare_at(bytes: &mut &[u8]) -> Result<Ask, ReadError>
 }
 
 fn opened_at(bytes: &mut &[u8]) -> Result<Ask, ReadError>
-    ensures { Reads (λ x. x) result bytes.new.now (two_fields byte_at (picked_at 0 outcomes) Opened bytes.old.now) }
+    ensures { Reads (λ x. x) result bytes.new.now (two_fields byte_at (picked_at 0 outcomes_by_number) Opened
+        bytes.old.now) }
 {
     let mutator = take_mutator(bytes)?;
     let outcome = outcome_at(bytes)?;
@@ -294,7 +296,7 @@ fn close_at(bytes: &mut &[u8]) -> Result<Ask, ReadError>
 
 fn finish_at(bytes: &mut &[u8]) -> Result<Ask, ReadError>
     ensures { Reads (λ x. x) result bytes.new.now
-        (three_fields byte_at (number_at w64) (picked_at 0 outcomes) Finish bytes.old.now) }
+        (three_fields byte_at (number_at w64) (picked_at 0 outcomes_by_number) Finish bytes.old.now) }
 {
     let by = take_u8(bytes)?;
     let action = take_action(bytes)?;
@@ -308,7 +310,7 @@ fn finish_at(bytes: &mut &[u8]) -> Result<Ask, ReadError>
 
 fn bind_at(bytes: &mut &[u8]) -> Result<Ask, ReadError>
     ensures { Reads (λ x. x) result bytes.new.now
-        (three_fields byte_at (text_at 1 32 is_name_byte) byte_at Bind bytes.old.now) }
+        (three_fields byte_at (text_at 1 32 is_name_letter) byte_at Bind bytes.old.now) }
 {
     let mutator = take_mutator(bytes)?;
     let name = take_name(bytes)?;
@@ -321,7 +323,7 @@ fn bind_at(bytes: &mut &[u8]) -> Result<Ask, ReadError>
 }
 
 fn find_at(bytes: &mut &[u8]) -> Result<Ask, ReadError>
-    ensures { Reads (λ x. x) result bytes.new.now (two_fields byte_at (text_at 1 32 is_name_byte) Find bytes.old.now) }
+    ensures { Reads (λ x. x) result bytes.new.now (two_fields byte_at (text_at 1 32 is_name_letter) Find bytes.old.now) }
 {
     let mutator = take_mutator(bytes)?;
     let name = take_name(bytes)?;
@@ -330,7 +332,7 @@ fn find_at(bytes: &mut &[u8]) -> Result<Ask, ReadError>
 
 fn unbind_at(bytes: &mut &[u8]) -> Result<Ask, ReadError>
     ensures { Reads (λ x. x) result bytes.new.now
-        (two_fields byte_at (text_at 1 32 is_name_byte) Unbind bytes.old.now) }
+        (two_fields byte_at (text_at 1 32 is_name_letter) Unbind bytes.old.now) }
 {
     let mutator = take_mutator(bytes)?;
     let name = take_name(bytes)?;

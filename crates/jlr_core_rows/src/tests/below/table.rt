@@ -1,7 +1,7 @@
 //! The table of files and sockets, which holds numbers here.
 ghost use Rattle.std.specs.Prelude.{◌≡◌, Some};
 ghost use Rattle.jlr_machine.specs.declared.machine.ResourceState.TheVariants as state;
-ghost use Rattle.jlr_resource.specs.Resources.{state_at};
+ghost use Rattle.jlr_resource.specs.Resources.{resource_state_at};
 
 use super::calls::{Got, Stage, play};
 use super::words::{Numbers, all_numbers, rid, small};
@@ -13,7 +13,7 @@ use std::test::Fail;
 
 // A whole life of a resource that can be neither dropped nor copied: it comes out as it was put in.
 fn whole_life<R>(table: &mut Table<R>, rid: Rid, resource: R) -> R
-    requires { state_at table.old rid ≡ Some state.Opening }
+    requires { resource_state_at table.old rid ≡ Some state.Opening }
     ensures same { result ≡ resource }
 {
     table.opened(rid, resource);

@@ -2,7 +2,7 @@ use Rattle.std.proofs.Common.{refl, lit≤}
 use Rattle.jlr_laws.specs.WrongEntries.{cleared_by_program, cleared_is_pended, closed_is_out, enqueued_by_program, first_weak_cleared}
 use Rattle.jlr_laws.specs.WrongEntries.{full_with_room, full_without_collection, gc_keeping_all, handler_appends_again, held_soft_cleared}
 use Rattle.jlr_laws.specs.WrongEntries.{held_soft_gives_null, one_dropped, rid_used_again, second_weak_kept, soft_chain_dropped}
-use Rattle.jlr_laws.specs.WrongEntries.{soft_chain_kept, taken_again, taken_by_cleaner, weak_dropped}
+use Rattle.jlr_laws.specs.WrongEntries.{soft_chain_kept, taken_again, entries_taken_by_cleaner, weak_dropped}
 use Rattle.jlr_laws.proofs.RowTest.{never_legal}
 use Rattle.jlr_laws.proofs.rows.wrong_entries_are_not_legal.Goals as goal
 
@@ -25,7 +25,7 @@ pub returns-clause-handler_does_not_append_again : goal.returns-clause-handler_d
 returns-clause-handler_does_not_append_again c = never_legal 16 1 16 enqueued_by_program handler_appends_again (lit≤ tt) (lit≤ tt) refl refl
 
 pub returns-clause-an_action_is_taken_up_once : goal.returns-clause-an_action_is_taken_up_once
-returns-clause-an_action_is_taken_up_once c = never_legal 16 1 16 taken_by_cleaner taken_again (lit≤ tt) (lit≤ tt) refl refl
+returns-clause-an_action_is_taken_up_once c = never_legal 16 1 16 entries_taken_by_cleaner taken_again (lit≤ tt) (lit≤ tt) refl refl
 
 pub returns-clause-a_closed_guard_gives_nothing : goal.returns-clause-a_closed_guard_gives_nothing
 returns-clause-a_closed_guard_gives_nothing c = never_legal 16 1 16 rid_used_again closed_is_out (lit≤ tt) (lit≤ tt) refl refl

@@ -4,7 +4,7 @@ use Rattle.jlr_machine.specs.Objects.{at, Heap, occupied, ◌∋◌}
 use Rattle.jlr_machine.specs.Choices.{Choosing, collecting, pended_by}
 use Rattle.jlr_barrier.specs.Graphs.{Graph, in_machine}
 use Rattle.jlr_marks.specs.Marking.{Marking}
-use Rattle.jlr_process.specs.Settling.{is_losing, kept_at, marked_below, settled}
+use Rattle.jlr_process.specs.Settling.{is_losing, kept_if_marked, marked_below, settled}
 use Rattle.jlr_process.proofs.Whole.{all_settled, as_parts, kept_counted, same_bool}
 use Rattle.jlr_process.proofs.Twice.{all_lost, settled_there}
 use Rattle.jlr_process.proofs.Settled.{as_many}
@@ -33,8 +33,8 @@ returns-clause-flips c =
     (λ h. s.all x (all_lost m old m.discovered holds.referents x h) h) in
     let settled_all : (x : ℕ) → x < length old → at c.keep_marked.new.heap.graph.objects x ≡ settled m x (at old x) = λ x l.
     t.objects x (omega (arith, l, s.long))
-    ∙ ap (λ (n : Marking). kept_at n x (at c.settle_discovered.new.heap.graph.objects x)) same_marks
-    ∙ ap (kept_at m x) (s.objects x)
+    ∙ ap (λ (n : Marking). kept_if_marked n x (at c.settle_discovered.new.heap.graph.objects x)) same_marks
+    ∙ ap (kept_if_marked m x) (s.objects x)
     ∙ settled_there m old m.discovered holds.referents x in
     let objects = all_settled m old w.long lost listed c.keep_marked.new.heap.graph.objects (t.long ∙ s.long) settled_all in
     let chosen : c.keep_marked.new.choice ≡ collecting c.args.choice.now (marked_below m (length old)) lost =

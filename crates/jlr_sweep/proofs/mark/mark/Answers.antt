@@ -8,7 +8,7 @@ use Rattle.jlr_barrier.specs.Parts.{IsBegun, ticks_at}
 use Rattle.jlr_barrier.specs.Snapshots.{IsObject, RefersTo}
 use Rattle.jlr_marks.specs.Marking.{place, upcoming}
 use Rattle.jlr_marker.specs.Following.{Ticks, keeps}
-use Rattle.jlr_marker.specs.Spending.{spent, ticks_for}
+use Rattle.jlr_marker.specs.Spending.{ticks_spent, ticks_for}
 use Rattle.jlr_marker.proofs.Following.{followed_objects, followed_is_soft, none_upcoming, object_within}
 use Rattle.jlr_marker.proofs.Whole.{marking_begins, marking_ends, marking_goes_on, marking_sound, marking_spends, marking_within}
 use Rattle.jlr_marker.proofs.Whole.{none_spent, slot_is_grey, spent_below, spent_within}
@@ -78,7 +78,8 @@ few c = subst (λ (g : Graph). ticks_at g.objects c.in-Some.slot ≤ 64) c.loop-
 up : (c : After-follow) → upcoming c.loop-slot.heap.marking ≡ Some c.in-Some.slot
 up c = sym c.in-Some.ensures.next
 
-one_more : (c : After-follow) → spent c.args.heap.now.graph.objects c.follow.new.heap.marking ≡ spent c.args.heap.now.graph.objects
+one_more : (c : After-follow) → ticks_spent c.args.heap.now.graph.objects c.follow.new.heap.marking
+    ≡ ticks_spent c.args.heap.now.graph.objects
     c.loop-slot.heap.marking + 1
 one_more c =
     let heap = c.args.heap.now.graph.objects in
@@ -93,7 +94,7 @@ loop-slot-smaller c =
     slot_is_grey (keeps c.args.policy.now c.args.heap.now.clock) heap (held c.args.heap.now.graph) (length heap) c.loop-slot.heap.marking
     c.follow.new.heap.marking c.in-Some.slot c.loop-slot.invariant.marking (ticked c)
     (up c) c.in-Some.ensures.there.0 (inside c) (begun c) in
-    let left : spent heap c.loop-slot.heap.marking < ticks_for heap =
+    let left : ticks_spent heap c.loop-slot.heap.marking < ticks_for heap =
     spent_below heap c.loop-slot.heap.marking c.in-Some.slot (up c) c.in-Some.ensures.there.0 grey (inside c) (begun c) in
     omega (arith, one_more c, left)
 

@@ -1,7 +1,7 @@
 use Rattle.std.proofs.Common.{◌<◌, arith, length, refl}
 use Rattle.jlr_machine.specs.Objects.{some_and, with_cleanable}
 use Rattle.jlr_machine.specs.Refusals.{is_cleanable}
-use Rattle.jlr_cells.specs.Contents.{without_referent}
+use Rattle.jlr_cells.specs.Contents.{cleanable_without_referent}
 use Rattle.jlr_cells.proofs.Slots.{object_of_cleanable}
 use Rattle.jlr_cells.proofs.ByKind.{kept_cleanable}
 use Rattle.jlr_cells.proofs.Queues.{cleanable_leaves, changed_at, holds_in, within}
@@ -25,7 +25,8 @@ clear_cleanable-requires c =
 pub invariant_of-self : goal.invariant_of-self
 invariant_of-self c =
     record {
-      kept = kept_cleanable _ _ _ _ c.index_mut-cell.result.now _ without_referent c.self.invariant.kept c.index_mut-cell.ensures.value
+      kept = kept_cleanable _ _ _ _ c.index_mut-cell.result.now _ cleanable_without_referent c.self.invariant.kept
+          c.index_mut-cell.ensures.value
           c.clear_cleanable.ensures.new c.clear_cleanable.ensures.kind;
       members = c.self.invariant.members;
     }
@@ -36,5 +37,5 @@ returns c =
     within c.self.inside.cells c.self.inside.queues.lists c.args.self.now c.self.view_is _ _ c.number.ensures
     (object_of_cleanable _ c.requires) in
     changed_at c.self.inside.cells c.self.inside.queues.lists c.args.self.now c.self.view_is _ _ c.index_mut-cell.result.now _
-    (with_cleanable without_referent) c.number.ensures below c.index_mut-cell.ensures.value c.clear_cleanable.ensures.new
-    (cleanable_leaves without_referent)
+    (with_cleanable cleanable_without_referent) c.number.ensures below c.index_mut-cell.ensures.value c.clear_cleanable.ensures.new
+    (cleanable_leaves cleanable_without_referent)

@@ -1,5 +1,5 @@
 use Rattle.std.proofs.Common.{◌≡◌, ◌∙◌, refl, ap, arith}
-use Rattle.jlr_cleaner.specs.Cleanings.{machine_with}
+use Rattle.jlr_cleaner.specs.Cleanings.{machine_of_cleanings}
 use Rattle.jlr_cleaner.proofs.Closing.{closing_over, work_of_job, in_state_of}
 use Rattle.jlr_cleaner.proofs.Stepping.{found_action, one_outcome, machine_finished, all_finished}
 use Rattle.jlr_cleaner.proofs.cleaner.Cleaner.finish.Goals as goal
@@ -38,4 +38,4 @@ returns-clause-finished g c = λ job found its.
 
 pub returns-clause-machine : goal.returns-clause-machine
 returns-clause-machine g c = λ m job found its.
-    ap (λ x. machine_with x m) (returns-clause-finished g c job found its) ∙ machine_finished _ job c.args.outcome m
+    ap (λ x. machine_of_cleanings x m) (returns-clause-finished g c job found its) ∙ machine_finished _ job c.args.outcome m

@@ -1,12 +1,12 @@
 use Rattle.std.proofs.Common.{◌≡◌, Some}
 use Rattle.jlr_machine.specs.declared.machine.ResourceState.TheVariants.{Opening}
-use Rattle.jlr_resource.specs.Resources.{state_at}
+use Rattle.jlr_resource.specs.Resources.{resource_state_at}
 use Rattle.jlr_cleaner.proofs.Closing.{closing_in_state}
 use Rattle.jlr_cleaner.proofs.cleaner.Cleaner.opened.Goals as goal
 
 pub invariant_of-self : goal.invariant_of-self
 invariant_of-self g c =
-    let there : state_at c.self.inside.table c.args.rid ≡ Some Opening = rw (← c.self.view_is) at c.requires in
+    let there : resource_state_at c.self.inside.table c.args.rid ≡ Some Opening = rw (← c.self.view_is) at c.requires in
     record {
       registered = c.self.invariant.registered;
       closing = closing_in_state c.self.inside.table c.opened.new.self c.args.rid c.self.inside.running (λ e. cc (there, e))

@@ -1,6 +1,6 @@
 use Rattle.std.proofs.Common.{◌≡◌, ◌<◌, ◌+◌, ◌∷◌, [], ◌++◌, List, length, arith, ap, ◌∙◌, sym, subst, length-append}
 use Rattle.jlr_types.specs.declared.limits.Limits.{Limits}
-use Rattle.jlr_log.specs.Seeing.{seen, whole}
+use Rattle.jlr_log.specs.Seeing.{seen, whole_history}
 use Rattle.jlr_hall.specs.declared.step.Step.{Step}
 use Rattle.jlr_hall.specs.OneHistory.{IsWhole}
 use Rattle.jlr_hall.proofs.Opening.{more_seats, new_whole}
@@ -12,7 +12,7 @@ loop-index-preserved g c =
     let x = c.new.result in
     let pushed : c.push.new.self.items ≡ c.loop-index.seats.items ++ x ∷ [] = c.in_ok-push.ensures.items in
     record {
-      keeper = c.deal-pass.ensures.keeper ∙ ap (λ k. whole k.all (k.dealt + 1)) i.keeper;
+      keeper = c.deal-pass.ensures.keeper ∙ ap (λ k. whole_history k.all (k.dealt + 1)) i.keeper;
       count = omega (arith, ap length pushed, length-append c.loop-index.seats.items (x ∷ []), i.count);
       seats = more_seats c.loop-index.seats.items c.push.new.self.items c.loop-index.index x pushed i.count
           (c.new.ensures ∙ c.deal-pass.ensures.pass ∙ ap (λ k. seen k.dealt k.all) i.keeper) i.seats;

@@ -5,7 +5,7 @@ use Rattle.jlr_hall.specs.declared.dues.Dues.{Dues}
 use Rattle.jlr_hall.specs.declared.effect.Effect.{Effect}
 use Rattle.jlr_hall.specs.declared.step.Step.{Step}
 use Rattle.jlr_hall.specs.Asking.{AskedIn}
-use Rattle.jlr_hall.specs.Locking.{IsLocked, Under, after}
+use Rattle.jlr_hall.specs.Locking.{IsLocked, Under, dues_after}
 use Rattle.jlr_hall.specs.Telling.{added}
 use Rattle.jlr_hall.proofs.Counting.{count_fits}
 use Rattle.jlr_hall.proofs.Jobs.{comes_with}
@@ -31,7 +31,7 @@ invariant_of-self g c =
     (λ i. (c.of-was.ensures i, c.of-asked.ensures i)) in
     let kept = ap (λ k. k.all) c.note.ensures.keeper ∙ ap (λ l. all ++ l) is in
     let sits : n < 256 = omega arith in
-    let dues = c.after.ensures ∙ ap (λ (e : Effect). after n e reply d) c.requires.effect in
+    let dues = c.after.ensures ∙ ap (λ (e : Effect). dues_after n e reply d) c.requires.effect in
     subst (λ (x : Dues × List (Step g.row.R.Denot)). IsLocked limits new x.0 x.1) (λ i. (sym dues i, sym kept i))
     (locked_now limits d all (added n h c.args.event reply new) n h new c.args.event reply sits c.self.invariant t)
 

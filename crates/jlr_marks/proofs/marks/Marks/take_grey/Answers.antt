@@ -2,7 +2,7 @@ use Rattle.std.proofs.Common.{◌≡◌, ◌∷◌, ◌++◌, Option, subst, sym
 use Rattle.std.specs.Prelude.{IfSome, IsPermutation}
 use Rattle.jlr_machine.specs.Objects.{◌∈◌}
 use Rattle.jlr_marks.specs.declared.part.Part.{Part}
-use Rattle.jlr_marks.specs.Marking.{Marking, next_of, slots_begun, upcoming}
+use Rattle.jlr_marks.specs.Marking.{Marking, grey_next, slots_begun, upcoming}
 use Rattle.jlr_marks.proofs.Greying.{first_once, grey_rest, last_is, popped, popped_once, still_grey}
 use Rattle.jlr_marks.proofs.marks.Marks.take_grey.Goals as goal
 
@@ -38,7 +38,7 @@ pub returns-in-None-clause-taken : goal.returns-in-None-clause-taken
 returns-in-None-clause-taken c =
     let items = c.self.inside.grey in
     subst (λ (m : Marking). c.pop.result ≡ upcoming m) c.self.view_is
-    (subst (λ (p : Option Part). c.pop.result ≡ next_of p (slots_begun p ++ items.items)) (sym c.in-None.is)
+    (subst (λ (p : Option Part). c.pop.result ≡ grey_next p (slots_begun p ++ items.items)) (sym c.in-None.is)
     (last_is c.pop.result items.items items.len (search rules) (search rules) c.pop.ensures.value))
 
 pub returns-in-None-clause-grey : goal.returns-in-None-clause-grey

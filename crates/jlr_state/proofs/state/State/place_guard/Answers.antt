@@ -11,7 +11,7 @@ use Rattle.jlr_state.specs.State.{machine_with}
 use Rattle.jlr_state.proofs.Awaiting.{armed_unspent, guarded_there, numbered_below}
 use Rattle.jlr_machine.specs.declared.machine.Resource.{Resource}
 use Rattle.jlr_machine.specs.declared.machine.ResourceState.{ResourceState}
-use Rattle.jlr_resource.specs.Resources.{Resources, state_at}
+use Rattle.jlr_resource.specs.Resources.{Resources, resource_state_at}
 use Rattle.jlr_state.specs.Flows.{LieAsBefore}
 use Rattle.jlr_machine.specs.declared.machine.ResourceState.TheVariants.{Opening}
 use Rattle.jlr_state.proofs.Moving.{none_lies, none_there, numbered_table, without_value}
@@ -72,7 +72,7 @@ returns-clause-lies g c =
     let old = c.args.self.now.cleaner.table in
     let new = c.prepare.new.self.table in
     let rid = c.in-Ok.rid in
-    let was : state_at old rid ≡ None =
+    let was : resource_state_at old rid ≡ None =
     ap {A = Option Resource} {B = Option ResourceState} (option_map (λ r. r.state)) c.in-Ok.ensures.free in
     let placed : LieAsBefore old new = without_value old new rid (none_there old rid was)
     (none_lies new rid Opening c.in-Ok.ensures.state (λ e. absurd (cc e))) c.in-Ok.ensures.others in

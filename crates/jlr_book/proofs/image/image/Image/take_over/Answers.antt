@@ -2,7 +2,7 @@ use Rattle.std.proofs.Common.{◌≡◌, [], drop, option_map, arith, ◌∙◌,
 use Rattle.std.proofs.Math.ListN.{drop_of_length-le}
 use Rattle.jlr_machine.specs.declared.machine.Machine.{Machine}
 use Rattle.jlr_book.specs.ImageKeeping.{image_from}
-use Rattle.jlr_book.specs.Led.{closed}
+use Rattle.jlr_book.specs.Led.{with_cycle_closed}
 use Rattle.jlr_book.proofs.ImageKeeping.{takes_over}
 use Rattle.jlr_book.proofs.image.image.Image.take_over.Goals as goal
 
@@ -15,6 +15,6 @@ returns-clause-image c = λ m run.
     let kept = c.close.ensures in
     let entries = c.swap.ensures.x_after in
     ap (λ k. image_from old.limits k (drop 0 c.swap.new.x.items)) kept
-    ∙ ap (λ v. image_from old.limits (option_map {T = Machine} closed old.machine) (drop 0 v.items)) entries
+    ∙ ap (λ v. image_from old.limits (option_map {T = Machine} with_cycle_closed old.machine) (drop 0 v.items)) entries
     ∙ takes_over old.limits old.machine c.args.self.now m (drop old.place old.entries.items) c.args.trace.now.items c.self.invariant.leads
     none c.self.view_is run

@@ -14,10 +14,10 @@ use Rattle.std.specs.Prelude.{ℕ, Option, None, Some}
 use Rattle.std.specs.Global.{Global}
 use Rattle.jlr_core.specs.Cores.{Kept}
 use Rattle.jlr_embed.proofs.unrecorded.Unrecorded.TheSendSync.{the_send as counter}
-use Rattle.jlr_embed.specs.Held.{held, heap_row as R}
+use Rattle.jlr_embed.specs.Held.{heap_held, heap_row as R}
 use Rattle.jlr_embed.specs.contracts.handle.handle.Heap.{the_row, the_type}
 
-held_keyless : (a : Global) (p : Ptr) (v : Option (Kept ℕ)) → Keyless (held a p v)
+held_keyless : (a : Global) (p : Ptr) (v : Option (Kept ℕ)) → Keyless (heap_held a p v)
 held_keyless a p None = tt
 held_keyless a p (Some x) = (lies R (counter u64 (search sendable)) p x, heap.frees.frees a (raw (lone R.mir)) p)
 
