@@ -384,7 +384,8 @@ impl Objects {
     /// The cleanable at a slot loses its referent.
     pub fn clear_cleanable(&mut self, slot: Slot)
         requires { IsTrue (some_and is_cleanable (at self.old.objects slot)) }
-        ensures objects { self.new.objects ≡ change_at self.old.objects slot (with_cleanable cleanable_without_referent) }
+        ensures objects { self.new.objects
+            ≡ change_at self.old.objects slot (with_cleanable cleanable_without_referent) }
         ensures condemned { self.new.condemned ≡ self.old.condemned }
     {
         self.store.clear_cleanable(slot);

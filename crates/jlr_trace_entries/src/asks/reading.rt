@@ -323,7 +323,8 @@ fn bind_at(bytes: &mut &[u8]) -> Result<Ask, ReadError>
 }
 
 fn find_at(bytes: &mut &[u8]) -> Result<Ask, ReadError>
-    ensures { Reads (λ x. x) result bytes.new.now (two_fields byte_at (text_at 1 32 is_name_letter) Find bytes.old.now) }
+    ensures { Reads (λ x. x) result bytes.new.now
+        (two_fields byte_at (text_at 1 32 is_name_letter) Find bytes.old.now) }
 {
     let mutator = take_mutator(bytes)?;
     let name = take_name(bytes)?;
