@@ -16,7 +16,7 @@ use Rattle.jlr_laws.proofs.Clearing.{in_append, in_left, in_right, option_in}
 use Rattle.jlr_laws.proofs.Frames.{no_some, set_same, set_other}
 use Rattle.jlr_marks.specs.declared.part.Part.{Part}
 use Rattle.jlr_marks.specs.Marking.{Blackened, Marking, IsMarked, is_marked, marked as count, place}
-use Rattle.jlr_marks.proofs.Counting.{count_marks}
+use Rattle.jlr_marks.proofs.MarkCounts.{count_marks}
 use Rattle.jlr_barrier.specs.Graphs.{Clock, Graph, Known, held, with_objects}
 use Rattle.jlr_barrier.specs.Parts.{IsInProgress, ahead_at, edges_ahead}
 use Rattle.jlr_barrier.specs.Snapshots.{IsEdge, IsObject, RefersTo, IsSafe, IsSnapshot, IsInHand, cycle_of, FitsTogether}

@@ -10,7 +10,7 @@ use Rattle.jlr_laws.proofs.Sets.{nothing}
 use Rattle.jlr_laws.proofs.Frames.{no_some, some_same}
 use Rattle.jlr_marks.specs.declared.part.Part.{Part}
 use Rattle.jlr_marks.specs.Marking.{Marking, IsMarked, Shaded, is_marked, grey_next, place, place_in, unmarked, upcoming}
-use Rattle.jlr_marks.proofs.Counting.{none_set}
+use Rattle.jlr_marks.proofs.MarkCounts.{none_set}
 use Rattle.jlr_marks.proofs.Shading.{same_marking}
 use Rattle.jlr_machine.specs.Edges.{active_cleanables}
 use Rattle.jlr_roots.specs.Walk.{slots_held}

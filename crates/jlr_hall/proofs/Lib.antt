@@ -1,7 +1,7 @@
 pub mod Runs
 pub mod Steps
 pub mod Owing
-pub mod Counting
+pub mod OpenCounts
 pub mod Turns
 pub mod Jobs
 pub mod Opening

@@ -46,7 +46,7 @@ use Rattle.jlr_machine.specs.Calls.{with_work_state, without_work_resource, take
 use Rattle.jlr_machine.specs.Calls.{handed_over, registered, prepared, prepared_in, guard_fenced, fence_of, opened, checked_out, checked_in}
 use Rattle.jlr_machine.specs.Calls.{finished, free_again}
 use Rattle.jlr_laws.proofs.Fits.{in_set}
-use Rattle.jlr_laws.proofs.KeepsHeap.{no_null}
+use Rattle.jlr_laws.proofs.keeps.Heap.{no_null}
 use Rattle.jlr_laws.proofs.Sets.{nothing, in_front, in_rest, in_cons}
 use Rattle.jlr_laws.proofs.Clearing.{in_append, in_left, in_right, in_option}
 use Rattle.jlr_laws.proofs.Frames.{no_some, some_same, set_cases, set_same, root_from}

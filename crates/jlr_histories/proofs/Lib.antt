@@ -11,7 +11,7 @@ pub mod TakenOnce
 pub mod Accounts
 pub mod Works
 pub mod Outcomes
-pub mod Standing
+pub mod ResourceStands
 pub mod Moving
 pub mod ResourceAsks
 pub mod OtherAsks

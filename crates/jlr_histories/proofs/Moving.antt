@@ -14,8 +14,8 @@ use Rattle.jlr_laws.proofs.Restated.{restated}
 use Rattle.jlr_histories.specs.ResourceLives.{phase_of, phase, Deed, after_deed, done_to, GoesOn}
 use Rattle.jlr_histories.specs.ResourceLives.Phase.{NotYet, In, Over}
 use Rattle.jlr_histories.specs.ResourceLives.Deed.{BeginsOpen}
-use Rattle.jlr_histories.proofs.Standing.{one_resource, given, phase_in, phase_out, standing, not_yet, given_on}
-use Rattle.jlr_histories.proofs.Standing.IsStanding.{there, not_there}
+use Rattle.jlr_histories.proofs.ResourceStands.{one_resource, given, phase_in, phase_out, standing, not_yet, given_on}
+use Rattle.jlr_histories.proofs.ResourceStands.IsStanding.{there, not_there}
 
 abbrev pub rid_key : Resource → ℕ
 rid_key r = r.rid

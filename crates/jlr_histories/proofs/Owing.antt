@@ -33,7 +33,7 @@ use Rattle.jlr_laws.proofs.Keyed.{key_found}
 use Rattle.jlr_laws.proofs.Changes.{change_here}
 use Rattle.jlr_laws.proofs.Allowed.{allowed, joined_session, free_session, opening_session, out_session, some_and_gives}
 use Rattle.jlr_laws.proofs.LegalKept.{no_need}
-use Rattle.jlr_laws.proofs.KeepsCalls.{calling, fence_on, guard_on, opening_ends, out_ends}
+use Rattle.jlr_laws.proofs.keeps.Calls.{calling, fence_on, guard_on, opening_ends, out_ends}
 use Rattle.jlr_histories.specs.Owing.{owed, owed_at, owed_by, owed_by_cleaner, most_owed}
 
 -- ---- Tables of mutators

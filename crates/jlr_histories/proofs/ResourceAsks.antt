@@ -40,10 +40,10 @@ use Rattle.jlr_laws.proofs.Keyed.{key_found}
 use Rattle.jlr_laws.proofs.Changes.{resource}
 use Rattle.jlr_laws.proofs.Allowed.{allowed, opening_session, out_session, some_and_gives, IsNamed, only_operand, guard_of, cleanable_of}
 use Rattle.jlr_laws.proofs.Allowed.{closed_is, out_is}
-use Rattle.jlr_laws.proofs.KeepsCalls.{not_spent, not_busy, idle_if, open_guard, out_ends, opening_ends, fence_on, guard_on}
-use Rattle.jlr_laws.proofs.KeepsTakeUps.{shut, taken_up_is}
-use Rattle.jlr_laws.proofs.KeepsFinish.{ended}
-use Rattle.jlr_laws.proofs.KeepsPrepare.{with_resource-keyed}
+use Rattle.jlr_laws.proofs.keeps.Calls.{not_spent, not_busy, idle_if, open_guard, out_ends, opening_ends, fence_on, guard_on}
+use Rattle.jlr_laws.proofs.keeps.TakeUps.{shut, taken_up_is}
+use Rattle.jlr_laws.proofs.keeps.Finish.{ended}
+use Rattle.jlr_laws.proofs.keeps.Prepare.{with_resource-keyed}
 use Rattle.jlr_histories.specs.ResourceLives.{action_at, rid_called, action_called, to_finish, doing, ended_by, deed_of}
 use Rattle.jlr_histories.specs.ResourceLives.Deed.{EndsOpen, FailsOpen, BeginsCall, EndsCall, BeginsFinish, EndsFinish}
 use Rattle.jlr_histories.proofs.Takes.{first_lined, lined_unspent}

@@ -24,8 +24,8 @@ use Rattle.jlr_histories.specs.Laws.{ResourceLivesInOrderInRuns}
 use Rattle.jlr_histories.proofs.Steps.{legal_step}
 use Rattle.jlr_histories.proofs.Takes.{legal_taking}
 use Rattle.jlr_histories.proofs.Takes.IsTaking.{none, one}
-use Rattle.jlr_histories.proofs.Standing.{one_resource, given, phase_in, phase_out, standing, not_yet}
-use Rattle.jlr_histories.proofs.Standing.IsStanding.{there, not_there}
+use Rattle.jlr_histories.proofs.ResourceStands.{one_resource, given, phase_in, phase_out, standing, not_yet}
+use Rattle.jlr_histories.proofs.ResourceStands.IsStanding.{there, not_there}
 use Rattle.jlr_histories.proofs.Moving.{IsMoving, goes_on, same_rid}
 use Rattle.jlr_histories.proofs.Moving.IsMoving.{still, opens, moves, ends}
 use Rattle.jlr_histories.proofs.ResourceSteps.{legal_moving, out_was_idle}

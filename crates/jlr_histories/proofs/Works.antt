@@ -32,7 +32,7 @@ use Rattle.jlr_laws.proofs.Keyed.{key_found}
 use Rattle.jlr_laws.proofs.Allowed.{allowed, some_and_gives}
 use Rattle.jlr_laws.proofs.LegalKept.{entry, no_need}
 use Rattle.jlr_laws.proofs.Refused.{gives_no_refusal}
-use Rattle.jlr_laws.proofs.KeepsTakeUps.{job_of_cleanable, taken_up_is}
+use Rattle.jlr_laws.proofs.keeps.TakeUps.{job_of_cleanable, taken_up_is}
 use Rattle.jlr_histories.specs.Lives.{tells, is_refused}
 use Rattle.jlr_histories.proofs.Steps.{carried_is}
 use Rattle.jlr_histories.proofs.Takes.{named_cleanable, first_lined, lined_unspent}

@@ -17,17 +17,17 @@ use Rattle.jlr_machine.specs.Run.IsLegal.{carried_out, refused, heap_full, out_o
 use Rattle.jlr_laws.proofs.SeenKept.{keeps_seen}
 use Rattle.jlr_laws.proofs.LegalKept.{keeps_full, keeps_refused, keeps_out_of_memory, keeps_heap_full, entry, no_need, keeps_plainly}
 use Rattle.jlr_laws.proofs.LegalKept.{keeps_making, keeps_Full, keeps_Collect, make_ref_refusal, register_refusal}
-use Rattle.jlr_laws.proofs.KeepsHeap.{keeps_Join, keeps_Leave, keeps_Dup, keeps_Drop, keeps_New, keeps_Array, keeps_Put, keeps_SetInt}
-use Rattle.jlr_laws.proofs.KeepsHeap.{keeps_Get}
-use Rattle.jlr_laws.proofs.KeepsReferences.{keeps_MakeQueue, keeps_MakeRef, keeps_Deref, keeps_Clear, keeps_Enqueue, keeps_Poll}
-use Rattle.jlr_laws.proofs.KeepsReferences.{keeps_Remove}
-use Rattle.jlr_laws.proofs.KeepsCalls.{keeps_check_out, keeps_check_in, keeps_opened}
-use Rattle.jlr_laws.proofs.KeepsOpenFailed.{keeps_open_failed}
-use Rattle.jlr_laws.proofs.KeepsTakeUps.{keeps_close, keeps_clean, keeps_take_up}
-use Rattle.jlr_laws.proofs.KeepsFinish.{keeps_finish}
-use Rattle.jlr_laws.proofs.KeepsPrepare.{keeps_prepare}
-use Rattle.jlr_laws.proofs.KeepsRegister.{keeps_register}
-use Rattle.jlr_laws.proofs.KeepsHandOver.{keeps_HandOver}
+use Rattle.jlr_laws.proofs.keeps.Heap.{keeps_Join, keeps_Leave, keeps_Dup, keeps_Drop, keeps_New, keeps_Array, keeps_Put, keeps_SetInt}
+use Rattle.jlr_laws.proofs.keeps.Heap.{keeps_Get}
+use Rattle.jlr_laws.proofs.keeps.References.{keeps_MakeQueue, keeps_MakeRef, keeps_Deref, keeps_Clear, keeps_Enqueue, keeps_Poll}
+use Rattle.jlr_laws.proofs.keeps.References.{keeps_Remove}
+use Rattle.jlr_laws.proofs.keeps.Calls.{keeps_check_out, keeps_check_in, keeps_opened}
+use Rattle.jlr_laws.proofs.keeps.OpenFailed.{keeps_open_failed}
+use Rattle.jlr_laws.proofs.keeps.TakeUps.{keeps_close, keeps_clean, keeps_take_up}
+use Rattle.jlr_laws.proofs.keeps.Finish.{keeps_finish}
+use Rattle.jlr_laws.proofs.keeps.Prepare.{keeps_prepare}
+use Rattle.jlr_laws.proofs.keeps.Register.{keeps_register}
+use Rattle.jlr_laws.proofs.keeps.HandOver.{keeps_HandOver}
 use Rattle.jlr_laws.proofs.NamesKept.{keeps_Bind, keeps_Unbind, keeps_Find, keeps_MakeCleaner, keeps_Begin, keeps_Abandon}
 
 prepare_kept : (m : Machine) → IsWellFormed m → (seat k : ℕ) (answer : Answer) (choice : Chosen)

@@ -2,6 +2,6 @@ pub mod Rooms
 pub mod Walking
 pub mod Appending
 pub mod Leaving
-pub mod Standing
+pub mod InLists
 pub mod Places
 pub mod Writing

@@ -1,3 +1,3 @@
-pub mod Counting
+pub mod MarkCounts
 pub mod Shading
 pub mod Greying

@@ -9,7 +9,7 @@ use Rattle.jlr_marks.specs.declared.part.Part.{Part}
 use Rattle.jlr_marks.specs.Marking.{Marking, is_marked, IsMarked, Shaded}
 use Rattle.jlr_laws.proofs.Sets.{nothing, in_front, in_cons}
 use Rattle.jlr_laws.proofs.Clearing.{in_append, in_left, in_right, option_in, in_option}
-use Rattle.jlr_marks.proofs.Counting.{count_marks}
+use Rattle.jlr_marks.proofs.MarkCounts.{count_marks}
 
 -- ---- Bits
 

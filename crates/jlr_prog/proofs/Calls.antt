@@ -34,7 +34,7 @@ use Rattle.jlr_machine.specs.WellFormed.{IsWellFormed, IsCallOf, FitsItsCall}
 use Rattle.jlr_laws.proofs.Frames.{no_some, some_same, set_same}
 use Rattle.jlr_laws.proofs.LegalKept.{entry, no_need}
 use Rattle.jlr_laws.proofs.Changes.{change_here}
-use Rattle.jlr_laws.proofs.KeepsCalls.{guard_on, opening_ends, out_ends}
+use Rattle.jlr_laws.proofs.keeps.Calls.{guard_on, opening_ends, out_ends}
 use Rattle.jlr_prog.proofs.Staying.{given_stays, taken_up_stays, finished_stays, refused_stays, collected_stays}
 
 -- mutator 0 is joined, and has no call in flight

@@ -25,7 +25,7 @@ use Rattle.jlr_barrier.proofs.Held.{by_itself, by_pending}
 use Rattle.jlr_barrier.proofs.OwnRoots.{active_from}
 use Rattle.jlr_refs.specs.Parts.{DeliversFront, HandsOverReference, IsPartOfMachine, handed_there}
 use Rattle.jlr_refs.proofs.Lining.{split}
-use Rattle.jlr_refs.proofs.Standing.{pending_there}
+use Rattle.jlr_refs.proofs.InQueues.{pending_there}
 
 -- ---- What the handler does with an object
 

@@ -2,5 +2,5 @@ pub mod Changing
 pub mod Enqueuing
 pub mod Handing
 pub mod Lining
-pub mod Standing
+pub mod InQueues
 pub mod TakingUp

@@ -3,7 +3,7 @@ pub mod Sent
 pub mod Going
 pub mod Ending
 pub mod Taking
-pub mod Standing
+pub mod SessionSoFar
 pub mod Following
 pub mod Calling
 pub mod Once

@@ -1,7 +1,7 @@
 pub mod Bits
 pub mod Finding
 pub mod Below
-pub mod Counting
+pub mod BitCounts
 pub mod Ending
 pub mod Assigning
 pub mod Beyond

@@ -26,7 +26,7 @@ use Rattle.jlr_roots.specs.Naming.{named}
 use Rattle.jlr_laws.proofs.Sets.{nothing, in_front, in_rest}
 use Rattle.jlr_laws.proofs.Clearing.{in_append, in_left}
 use Rattle.jlr_laws.proofs.Fits.{referent_object, strong_object}
-use Rattle.jlr_laws.proofs.KeepsHeap.{in_value}
+use Rattle.jlr_laws.proofs.keeps.Heap.{in_value}
 use Rattle.jlr_laws.proofs.Frames.{no_some, some_same, root_from, is_plain_there, is_reference_there, from_places, from_sessions}
 use Rattle.jlr_laws.proofs.Frames.IsRoot.{fencing}
 use Rattle.jlr_cells.specs.Contents.{field_at}

@@ -26,7 +26,7 @@ use Rattle.jlr_machine.specs.Refusals.{is_cleanable, refusal}
 use Rattle.jlr_laws.proofs.Allowed.{cleanable_of, free_session, joined_session, some_and_gives}
 use Rattle.jlr_laws.proofs.Frames.{change_as_long, is_cleanable_there, no_some, place_within, some_same}
 use Rattle.jlr_laws.proofs.Keyed.{all_found}
-use Rattle.jlr_laws.proofs.KeepsTakeUps.{one_less}
+use Rattle.jlr_laws.proofs.keeps.TakeUps.{one_less}
 use Rattle.jlr_barrier.specs.Graphs.{Graph, in_machine}
 use Rattle.jlr_refs.specs.Parts.{front_of, front_spent}
 use Rattle.jlr_cleaner.specs.Cleanings.{Cleanings, HasWork, after_register, machine_of_cleanings as with_cleanings}

@@ -1,7 +1,7 @@
 pub mod EntriesLoop
 pub mod FileLaws
 pub mod Shapes
-pub mod Counting
+pub mod FileCounts
 pub mod ToEnd
 pub mod Stillness
 pub mod Windows

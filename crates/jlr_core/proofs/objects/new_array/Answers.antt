@@ -1,6 +1,6 @@
 use Rattle.std.proofs.Common.{refl, sym, subst, filter_map}
 use Rattle.jlr_machine.specs.Objects.{◌∈◌}
-use Rattle.jlr_laws.proofs.KeepsHeap.{no_null}
+use Rattle.jlr_laws.proofs.keeps.Heap.{no_null}
 use Rattle.jlr_marks.specs.Marking.{Marking}
 use Rattle.jlr_state.specs.Machines.{machine_of}
 use Rattle.jlr_state.specs.Marks.{BlackensMade}

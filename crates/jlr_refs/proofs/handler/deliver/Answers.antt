@@ -2,7 +2,7 @@ use Rattle.std.proofs.Common.{sym, ◌∙◌, subst}
 use Rattle.jlr_machine.specs.Objects.{◌∈◌}
 use Rattle.jlr_barrier.specs.Graphs.{Graph, in_machine}
 use Rattle.jlr_refs.proofs.Handing.{front_in_hand, lined_is_cleanable}
-use Rattle.jlr_refs.proofs.Standing.{gone_from_front, not_in_line}
+use Rattle.jlr_refs.proofs.InQueues.{gone_from_front, not_in_line}
 use Rattle.jlr_refs.proofs.handler.deliver.Goals as goal
 
 -- what is at the front of the pending list is a root

@@ -1,5 +1,5 @@
 use Rattle.std.proofs.Common.{arith, rules, ◌≡◌, ◌≤◌, length, take, [], ap}
-use Rattle.jlr_session.proofs.Standing.{stands_first, stands_more, ends_in_chunk, ends_at_end, taken_of}
+use Rattle.jlr_session.proofs.SessionSoFar.{stands_first, stands_more, ends_in_chunk, ends_at_end, taken_of}
 use Rattle.jlr_session.proofs.shell.converse.Goals as goal
 
 pub loop-left-init : goal.loop-left-init

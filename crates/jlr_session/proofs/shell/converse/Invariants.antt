@@ -1,6 +1,6 @@
 use Rattle.std.proofs.Common.{◌<◌}
 use Rattle.jlr_session.specs.Limits.{most_lines}
-use Rattle.jlr_session.proofs.Standing.{Stands}
+use Rattle.jlr_session.proofs.SessionSoFar.{Stands}
 use Rattle.jlr_session.proofs.shell.converse.Given as goal
 
 abbrev pub invariant-loop-left : goal.invariant-loop-left

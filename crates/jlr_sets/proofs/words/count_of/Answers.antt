@@ -3,7 +3,7 @@ use Rattle.jlr_sets.specs.Bits.{bits_of}
 use Rattle.jlr_sets.specs.SlotSets.{slots_below}
 use Rattle.jlr_sets.proofs.Bits.{length-bits_of}
 use Rattle.jlr_sets.proofs.Below.{slots_below-zero}
-use Rattle.jlr_sets.proofs.Counting.{counted_word}
+use Rattle.jlr_sets.proofs.BitCounts.{counted_word}
 use Rattle.jlr_sets.proofs.words.count_of.Goals as goal
 
 pub loop-word-init : goal.loop-word-init

@@ -1,5 +1,5 @@
 use Rattle.jlr_trace.specs.Files.{history_of}
-use Rattle.jlr_trace.proofs.Counting.{counts_of_spelling}
+use Rattle.jlr_trace.proofs.FileCounts.{counts_of_spelling}
 use Rattle.jlr_trace.proofs.writing.write_history.Goals as goal
 
 pub put_file-requires : goal.put_file-requires

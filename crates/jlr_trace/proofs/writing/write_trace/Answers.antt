@@ -1,4 +1,4 @@
-use Rattle.jlr_trace.proofs.Counting.{counts_of_spelling}
+use Rattle.jlr_trace.proofs.FileCounts.{counts_of_spelling}
 use Rattle.jlr_trace.proofs.writing.write_trace.Goals as goal
 
 pub put_file-requires : goal.put_file-requires

@@ -7,7 +7,7 @@ use Rattle.jlr_hall.specs.declared.step.Step.{Step}
 use Rattle.jlr_hall.specs.Asking.{AskedIn}
 use Rattle.jlr_hall.specs.Locking.{IsLocked, Under, dues_after}
 use Rattle.jlr_hall.specs.Telling.{added}
-use Rattle.jlr_hall.proofs.Counting.{count_fits}
+use Rattle.jlr_hall.proofs.OpenCounts.{count_fits}
 use Rattle.jlr_hall.proofs.Jobs.{comes_with}
 use Rattle.jlr_hall.proofs.Steps.{asked, locked_now, tells}
 use Rattle.jlr_hall.proofs.hall.Locked.ask.Goals as goal

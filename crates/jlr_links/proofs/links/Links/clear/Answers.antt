@@ -2,7 +2,7 @@ use Rattle.std.proofs.Common.{◌≡◌, [], subst, slice_set}
 use Rattle.jlr_links.specs.Lists.{Lists}
 use Rattle.jlr_links.specs.Walks.{lists_in, no_ends}
 use Rattle.jlr_links.proofs.Leaving.{cleared_lists}
-use Rattle.jlr_links.proofs.Standing.{within_ends}
+use Rattle.jlr_links.proofs.InLists.{within_ends}
 use Rattle.jlr_links.proofs.links.Links.clear.Goals as goal
 
 pub returns-clause-lists : goal.returns-clause-lists

@@ -1,6 +1,6 @@
 use Rattle.std.proofs.lemmas.List.{get_or_read}
 use Rattle.jlr_links.specs.Walks.{no_ends}
-use Rattle.jlr_links.proofs.Standing.{tells_count, within_ends}
+use Rattle.jlr_links.proofs.InLists.{tells_count, within_ends}
 use Rattle.jlr_links.proofs.links.Links.count.Goals as goal
 
 pub returns : goal.returns

@@ -1,7 +1,7 @@
 use Rattle.std.proofs.Common.{◌<◌, ◌∙◌, length, arith, ap}
 use Rattle.std.proofs.lemmas.List.{get_or_read}
 use Rattle.jlr_links.specs.Walks.{link, no_ends}
-use Rattle.jlr_links.proofs.Standing.{slot_inside, tells_last, tells_next, within_ends}
+use Rattle.jlr_links.proofs.InLists.{slot_inside, tells_last, tells_next, within_ends}
 use Rattle.jlr_links.proofs.links.Links.next.Goals as goal
 
 pub returns-then-number-index : goal.returns-then-number-index

@@ -1,6 +1,6 @@
 use Rattle.std.proofs.Common.{◌<◌, ◌++◌, rules, true, length, count_by, sym, subst, ap, arith, length-set}
 use Rattle.jlr_marks.specs.Marking.{AreGrey, slots_begun}
-use Rattle.jlr_marks.proofs.Counting.{count_more}
+use Rattle.jlr_marks.proofs.MarkCounts.{count_more}
 use Rattle.jlr_marks.proofs.Greying.{grey_still}
 use Rattle.jlr_marks.proofs.marks.Marks.blacken.Goals as goal
 

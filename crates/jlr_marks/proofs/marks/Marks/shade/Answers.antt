@@ -3,7 +3,7 @@ use Rattle.std.proofs.Common.{false, get_or, set, true}
 use Rattle.jlr_sets.proofs.Absent.{not_set}
 use Rattle.std.proofs.lemmas.List.{append_assoc}
 use Rattle.jlr_marks.specs.Marking.{AreGrey, slots_begun}
-use Rattle.jlr_marks.proofs.Counting.{count_marks, room_left}
+use Rattle.jlr_marks.proofs.MarkCounts.{count_marks, room_left}
 use Rattle.jlr_marks.proofs.Greying.{grey_more}
 use Rattle.jlr_marks.proofs.marks.Marks.shade.Goals as goal
 

@@ -34,7 +34,7 @@ use Rattle.jlr_laws.proofs.Keyed.{keyed_with, keys_changed, found_changed, found
 use Rattle.jlr_laws.proofs.Changes.{change_here, change_beside, session_same}
 use Rattle.jlr_laws.proofs.Allowed.{allowed, free_session, IsNamed, only_operand, guard_of, cleanable_of, closed_is, out_is, some_and_gives}
 use Rattle.jlr_laws.proofs.Restated.{restated}
-use Rattle.jlr_laws.proofs.KeepsCalls.{open_guard, calling, not_spent, idle_if, not_busy}
+use Rattle.jlr_laws.proofs.keeps.Calls.{open_guard, calling, not_spent, idle_if, not_busy}
 use Rattle.jlr_laws.proofs.Listed.{listed_is_well_formed, as_listed}
 use Rattle.std.specs.List.{list_any}
 use Rattle.jlr_laws.proofs.TakenUp.{with_job-keyed, has, IsTakenUp, taken_up_is_well_formed}

@@ -49,8 +49,8 @@ use Rattle.jlr_laws.proofs.Keyed.{keyed_with, found_new, found_beside, rising_wi
 use Rattle.jlr_laws.proofs.Changes.{change_here, change_beside, session_same, cleanable_same, resource_same, HasCleanable, worker_from}
 use Rattle.jlr_laws.proofs.Changes.{worker_over}
 use Rattle.jlr_laws.proofs.Allowed.{allowed, joined_session, free_session}
-use Rattle.jlr_laws.proofs.KeepsCalls.{calling}
-use Rattle.jlr_laws.proofs.KeepsTakeUps.{count_set}
+use Rattle.jlr_laws.proofs.keeps.Calls.{calling}
+use Rattle.jlr_laws.proofs.keeps.TakeUps.{count_set}
 use Rattle.jlr_laws.proofs.Fits.{strong_object, referent_object, free_is}
 
 pub with_resource-keyed : (resources : List Resource) (new : Resource)

@@ -41,7 +41,7 @@ use Rattle.jlr_laws.proofs.Frames.IsRoot.{held, fencing, named, waiting, lining,
 use Rattle.jlr_laws.proofs.Keyed.{none_found, all_weaker}
 use Rattle.jlr_laws.proofs.Changes.{HasCleanable, worker_over}
 use Rattle.jlr_laws.proofs.Allowed.{allowed, free_session, only_operand}
-use Rattle.jlr_laws.proofs.KeepsTakeUps.{count_set}
+use Rattle.jlr_laws.proofs.keeps.TakeUps.{count_set}
 use Rattle.jlr_laws.proofs.SessionsKept.{keeps_handle}
 use Rattle.jlr_laws.proofs.Fits.{fresh_one}
 

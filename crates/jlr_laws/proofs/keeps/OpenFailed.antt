@@ -32,8 +32,8 @@ use Rattle.jlr_laws.proofs.Keyed.{by_key, keyed_without, found_gone, found_left,
 use Rattle.jlr_laws.proofs.Changes.{change_here, change_beside, session_same, cleanable_same, resource_same, HasCleanable, worker_over}
 use Rattle.jlr_laws.proofs.Changes.{IsElsewhere}
 use Rattle.jlr_laws.proofs.Allowed.{allowed, opening_session}
-use Rattle.jlr_laws.proofs.KeepsCalls.{calling, no_one_else, IsEnding, opening_ends, guard_on}
-use Rattle.jlr_laws.proofs.KeepsTakeUps.{one_less}
+use Rattle.jlr_laws.proofs.keeps.Calls.{calling, no_one_else, IsEnding, opening_ends, guard_on}
+use Rattle.jlr_laws.proofs.keeps.TakeUps.{one_less}
 use Rattle.jlr_laws.proofs.Ended.{IsFreed}
 use Rattle.jlr_laws.proofs.Retouched.{IsRetouched, not_armed, back, over, cleanable_cases, alive, edges_back, active_back, state_same}
 use Rattle.jlr_laws.proofs.Retouched.{clean_state_here, clean_state_beside, references_kept, queue_over, cleanable_there, private_back}

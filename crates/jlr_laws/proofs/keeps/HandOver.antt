@@ -35,8 +35,8 @@ use Rattle.jlr_laws.proofs.Frames.IsRoot.{held, fencing, named, waiting, lining,
 use Rattle.jlr_laws.proofs.Changes.{change_here, change_beside, cleanable_same, HasCleanable, worker_over}
 use Rattle.jlr_laws.proofs.Allowed.{some_there}
 use Rattle.jlr_laws.proofs.Listed.{as_listed, listed_is_well_formed}
-use Rattle.jlr_laws.proofs.KeepsTakeUps.{count_set}
-use Rattle.jlr_laws.proofs.KeepsReferences.{enqueue_kept}
+use Rattle.jlr_laws.proofs.keeps.TakeUps.{count_set}
+use Rattle.jlr_laws.proofs.keeps.References.{enqueue_kept}
 use Rattle.jlr_laws.proofs.Retouched.{IsRetouched, not_armed, back, over, cleanable_cases, alive, edges_back, active_back, state_same}
 use Rattle.jlr_laws.proofs.Retouched.{clean_state_here, clean_state_was, clean_state_beside, references_kept, queue_over, cleanable_there}
 use Rattle.jlr_laws.proofs.Retouched.{private_back}

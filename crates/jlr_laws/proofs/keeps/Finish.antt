@@ -28,8 +28,8 @@ use Rattle.jlr_laws.proofs.Frames.{no_some, some_same, change_as_long}
 use Rattle.jlr_laws.proofs.Keyed.{by_key, keyed_without, key_found, found_gone, found_left, rising_without, all_without, all_found}
 use Rattle.jlr_laws.proofs.Changes.{change_here, change_beside, session_same}
 use Rattle.jlr_laws.proofs.Allowed.{allowed, some_and_gives}
-use Rattle.jlr_laws.proofs.KeepsCalls.{calling}
-use Rattle.jlr_laws.proofs.KeepsTakeUps.{no_mutator_255}
+use Rattle.jlr_laws.proofs.keeps.Calls.{calling}
+use Rattle.jlr_laws.proofs.keeps.TakeUps.{no_mutator_255}
 use Rattle.jlr_laws.proofs.TakenUp.{has}
 use Rattle.jlr_laws.proofs.Ended.{IsFreed, ended_is_well_formed}
 

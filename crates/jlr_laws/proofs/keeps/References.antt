@@ -31,7 +31,7 @@ use Rattle.jlr_laws.proofs.SessionsKept.{keeps_handle, keeps_given}
 use Rattle.jlr_laws.proofs.Allowed.{allowed, IsNamed, only_operand, named_of_slot, free_session, and_then_gives}
 use Rattle.jlr_laws.proofs.Fits.{changed_is_new, edge_split, referent_object, fresh_one, keeps_made, keeps_reference, pending_state}
 use Rattle.jlr_laws.proofs.Fits.{keeps_members}
-use Rattle.jlr_laws.proofs.KeepsHeap.{shown_slot}
+use Rattle.jlr_laws.proofs.keeps.Heap.{shown_slot}
 
 reference_of : (o : Object) → is_reference o ≡ true → (r : ReferenceOf) × (o ≡ Reference r)
 reference_of (Plain fields) e = absurd (cc e)
