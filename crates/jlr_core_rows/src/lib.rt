@@ -1,7 +1,8 @@
-//! Tests of the core: lists of events, and what each is answered.
+//! Tests of what needs no session: of the core, by lists of events and what each is answered; of small values, devices
+//! and the cleaner (`below`); of the plain program (`plain`); of trace files, verdicts and figures (`audit`).
 //!
-//! They stand in a crate of their own, over the core's public calls, so that the core is proved once and not a second
-//! time with them.
+//! They stand in a crate of their own, over public calls, so that what they test is proved once and not a second time
+//! with them.
 #![tactic(auto)]
 
 #[cfg(test)]

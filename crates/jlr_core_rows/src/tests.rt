@@ -19,6 +19,7 @@ use jlr_types::{Limits, Mutator};
 use script::events_of;
 use std::alloc::{AllocError, Global};
 
+mod audit;
 mod below;
 mod cleaning;
 mod cycles;

@@ -1,6 +1,7 @@
 //! Sessions as lists of text. The expected texts come from the description of the protocol and of the machine.
 mod arrays;
 mod cleaners;
+mod client;
 mod cuts;
 mod files;
 mod histories;

@@ -1,5 +1,5 @@
 //! The data of the machine. No clause says that memory can be had, so each call that takes some is made here. Copies of
-//! machines and of entries are tested by `jlr_audit_rows`.
+//! machines and of entries are tested by `audit`.
 use jlr_machine::items::Items;
 use jlr_types::Slot;
 use std::alloc::{AllocError, Global};

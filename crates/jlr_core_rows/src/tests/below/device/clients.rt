@@ -13,7 +13,7 @@ use std::os::unix::net::{UnixListener, UnixStream};
 use std::str::SplitWhitespace;
 use std::test::Fail;
 
-const FOLDER: &str = "jlr_client_rows";
+const FOLDER: &str = "clients_of_a_device";
 
 // So many writes fill what lies between two ends at most.
 const WRITES: u32 = 10_000;
@@ -118,7 +118,7 @@ const LISTS: &str = "
     # a read of a silent peer ends with its client
     new -> true
     client_comes -> true
-    meet jlr_client_rows/a -> true
+    meet clients_of_a_device/a -> true
     peer_writes 1 2 -> true
     read 4 -> (Ok(2), [1, 2, 9, 9])
     client_goes -> true
@@ -132,7 +132,7 @@ const LISTS: &str = "
     # a write to a peer that does not read ends with its client
     new -> true
     client_comes -> true
-    meet jlr_client_rows/a -> true
+    meet clients_of_a_device/a -> true
     client_goes -> true
     write_until_it_fails -> Err(Other)
     failed_calls -> 1
@@ -140,7 +140,7 @@ const LISTS: &str = "
     # a client that only sends no more is not gone
     new -> true
     client_comes -> true
-    meet jlr_client_rows/a -> true
+    meet clients_of_a_device/a -> true
     client_sends_no_more -> true
     peer_writes 4 -> true
     read 4 -> (Ok(1), [4, 9, 9, 9])
@@ -151,16 +151,16 @@ const LISTS: &str = "
     new -> true
     client_comes -> true
     client_goes -> true
-    open_to_write jlr_client_rows/file -> Ok(())
+    open_to_write clients_of_a_device/file -> Ok(())
     write 1 -> Ok(1)
     finish -> Finished { outcome: Ok(()), failures: 0 }
-    open_to_read jlr_client_rows/file -> Ok(())
+    open_to_read clients_of_a_device/file -> Ok(())
     read 4 -> (Ok(1), [1, 9, 9, 9])
     read 4 -> (Ok(0), [9, 9, 9, 9])
 
     # nobody is attended
     new -> true
-    meet jlr_client_rows/a -> true
+    meet clients_of_a_device/a -> true
     peer_writes 6 -> true
     read 4 -> (Ok(1), [6, 9, 9, 9])
     write 7 -> Ok(1)
