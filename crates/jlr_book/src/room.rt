@@ -66,7 +66,7 @@ impl AnswerRoom {
     }
 
     /// Room for what a call read, if there is any. Takes no memory.
-    pub fn for_bytes(alloc: Global, room: Option<Data>) -> Self
+    pub(crate) fn for_bytes(alloc: Global, room: Option<Data>) -> Self
         ensures { is_some room ≡ true → 1 ≤ result.bytes }
     {
         let items = match room {
@@ -80,7 +80,7 @@ impl AnswerRoom {
     ///
     /// # Errors
     /// `AllocError` where the room cannot be had.
-    pub fn for_ask(alloc: Global, ask: &Ask) -> Result<Self, AllocError>
+    pub(crate) fn for_ask(alloc: Global, ask: &Ask) -> Result<Self, AllocError>
         requires { is_end ask.now ≡ false }
         ensures { IfOk result (λ room. HasRoomFor ask.now room) }
     {

@@ -171,7 +171,7 @@ impl Store {
     }
 
     /// Whether there is an array at a slot.
-    pub fn is_array(&self, slot: Slot) -> bool
+    pub(crate) fn is_array(&self, slot: Slot) -> bool
         ensures { result ≡ some_and is_array (at self.now slot) }
     {
         matches!(self.kind(slot), Some(Kind::Array))
@@ -179,7 +179,7 @@ impl Store {
 
     /// A slot not below `from` outside a set, such that no array is between outside the set; or none, where there is no
     /// array outside the set from there on.
-    pub fn next_array(&self, kept: &CellSet, from: u32) -> Option<Slot>
+    pub(crate) fn next_array(&self, kept: &CellSet, from: u32) -> Option<Slot>
         ensures { MatchOption result ((s : ℕ) → from ≤ s → is_in kept.now s ≡ false
             → some_and is_array (at self.now s) ≡ false)
             (λ slot. (from ≤ slot) × (slot < length self.now) × (is_in kept.now slot ≡ false)
@@ -414,7 +414,7 @@ impl Store {
     }
 
     /// The queue at a slot has no members any more.
-    pub fn clear_members(&mut self, queue: Slot)
+    pub(crate) fn clear_members(&mut self, queue: Slot)
         requires { queue < length self.old }
         ensures { self.new ≡ change_at self.old queue (with_members (λ _. [])) }
     {

@@ -1,5 +1,4 @@
-//! Copies of machines and of entries: exact, or out of memory. They stand apart from the machine, as few need them and
-//! their proofs are long.
+//! Copies of machines and of entries: exact, or out of memory. Few need them.
 
 mod answer;
 mod ask;

@@ -43,7 +43,7 @@ fn background_allowed(alloc: Global, machine: &Machine, c: &Collected) -> Result
 }
 
 /// Whether there is no room, and it is a full collection that clears all soft references.
-pub fn clears_for_room(
+pub(crate) fn clears_for_room(
     alloc: Global,
     machine: &Machine,
     needed: usize,

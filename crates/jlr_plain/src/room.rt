@@ -12,7 +12,7 @@ use jlr_plain_collections::collection::distinct;
 use jlr_types::Slot;
 
 /// Whether the objects and those to be made are at most the cells.
-pub fn room_for(machine: &Machine, cells: usize) -> bool
+pub(crate) fn room_for(machine: &Machine, cells: usize) -> bool
     requires { cells ≤ 2 }
     ensures { result ≡ has_room machine.now cells }
 {

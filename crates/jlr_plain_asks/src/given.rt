@@ -48,7 +48,7 @@ fn deref_given(machine: &Machine, mutator: Mutator, reference: Handle) -> Option
 }
 
 /// The front of the queue that a handle stands for.
-pub fn front_given(machine: &Machine, mutator: Mutator, queue: Handle) -> Option<Slot>
+pub(crate) fn front_given(machine: &Machine, mutator: Mutator, queue: Handle) -> Option<Slot>
     ensures { result ≡ option_and_then front (members_named machine.now mutator queue) }
 {
     match named_members(machine, mutator, queue) {

@@ -6,7 +6,7 @@ use jlr_machine::ask::Ask;
 use jlr_types::Refusal;
 
 /// The refusals of an ask, in the order of checking.
-pub fn listed_for(ask: &Ask) -> &'static [Refusal]
+pub(crate) fn listed_for(ask: &Ask) -> &'static [Refusal]
     ensures { result.now ≡ listed ask.now }
 {
     match ask {

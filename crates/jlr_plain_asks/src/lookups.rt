@@ -16,7 +16,7 @@ use jlr_types::{ActionNo, FieldNo, FieldValue, Handle, Mutator, Rid, Slot};
 const HANDLES: usize = 250;
 
 /// The session of a mutator.
-pub fn session_of(machine: &Machine, mutator: Mutator) -> Option<&Session>
+pub(crate) fn session_of(machine: &Machine, mutator: Mutator) -> Option<&Session>
     ensures { option_copied result ≡ at machine.now.mutators mutator }
 {
     machine.mutators.get(mutator.number() as usize)
@@ -49,7 +49,7 @@ pub fn named_slot(machine: &Machine, mutator: Mutator, handle: Handle) -> Option
 }
 
 /// The object that a handle of a mutator stands for.
-pub fn named_object(machine: &Machine, mutator: Mutator, handle: Handle) -> Option<&Object>
+pub(crate) fn named_object(machine: &Machine, mutator: Mutator, handle: Handle) -> Option<&Object>
     ensures { option_copied result ≡ object_named machine.now mutator handle }
 {
     match named_slot(machine, mutator, handle) {
@@ -119,7 +119,11 @@ pub fn named_reference(machine: &Machine, mutator: Mutator, handle: Handle) -> O
 }
 
 /// The members of the queue that a handle stands for.
-pub fn named_members(machine: &Machine, mutator: Mutator, handle: Handle) -> Option<&Items<Slot>>
+pub(crate) fn named_members(
+    machine: &Machine,
+    mutator: Mutator,
+    handle: Handle,
+) -> Option<&Items<Slot>>
     ensures { option_copied result ≡ members_named machine.now mutator handle }
 {
     match named_object(machine, mutator, handle) {
@@ -129,7 +133,7 @@ pub fn named_members(machine: &Machine, mutator: Mutator, handle: Handle) -> Opt
 }
 
 /// The guard that a handle stands for.
-pub fn named_guard(machine: &Machine, mutator: Mutator, handle: Handle) -> Option<Guard>
+pub(crate) fn named_guard(machine: &Machine, mutator: Mutator, handle: Handle) -> Option<Guard>
     ensures { result ≡ guard_named machine.now mutator handle }
 {
     match named_object(machine, mutator, handle) {
@@ -199,7 +203,7 @@ pub fn occupied_cells(places: &[Option<Object>]) -> usize
 }
 
 /// Whether the mutator may hold one more.
-pub fn handle_is_free(machine: &Machine, mutator: Mutator) -> bool
+pub(crate) fn handle_is_free(machine: &Machine, mutator: Mutator) -> bool
     ensures { result ≡ has_free_handle machine.now mutator }
 {
     match session_of(machine, mutator) {
@@ -224,7 +228,7 @@ pub fn names_agree(left: &[u8], right: &[u8]) -> bool
 }
 
 /// The slot that a name stands for.
-pub fn bound_slot(names: &[Binding], name: &[u8]) -> Option<Slot>
+pub(crate) fn bound_slot(names: &[Binding], name: &[u8]) -> Option<Slot>
     ensures { result ≡ slot_bound names.now name.now }
 {
     for binding in names {
@@ -270,7 +274,7 @@ pub fn cleanable_in(machine: &Machine, slot: Slot) -> Option<Cleanable>
 }
 
 /// The slot of the cleanable of the guard that a handle stands for.
-pub fn guarded_cleanable(machine: &Machine, mutator: Mutator, handle: Handle) -> Option<Slot>
+pub(crate) fn guarded_cleanable(machine: &Machine, mutator: Mutator, handle: Handle) -> Option<Slot>
     ensures { result ≡ cleanable_of_guard machine.now mutator handle }
 {
     match named_guard(machine, mutator, handle) {

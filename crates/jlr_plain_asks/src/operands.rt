@@ -202,7 +202,7 @@ pub fn operands_of(ask: &Ask) -> Operands
 }
 
 /// The field that an ask names.
-pub fn field_of_ask(ask: &Ask) -> Option<FieldNamed>
+pub(crate) fn field_of_ask(ask: &Ask) -> Option<FieldNamed>
     ensures { option_map (λ x. (x.object, x.field, x.kind)) result ≡ field_asked ask.now }
 {
     match ask {

@@ -261,7 +261,7 @@ fn names_are_full(machine: &Machine, ask: &Ask) -> bool
 
 // ---- Resources
 
-pub fn is_spent_state(state: CleanState) -> bool
+pub(crate) fn is_spent_state(state: CleanState) -> bool
     ensures { result ≡ is_spent state }
 {
     match state {

@@ -273,7 +273,7 @@ pub(crate) fn listed(
     SlotList::from_vec(alloc, objects.len(), copy_slice(alloc, slots)?)
 }
 
-pub fn tested(
+pub(crate) fn tested(
     alloc: Global,
     objects: &Table<Object>,
     base: &[Slot],
@@ -289,7 +289,7 @@ pub fn tested(
 }
 
 /// Whether a collection that counts the base as reachable may keep these and hand those over.
-pub fn is_collection_plain(
+pub(crate) fn is_collection_plain(
     alloc: Global,
     objects: &Table<Object>,
     base: &[Slot],
@@ -303,7 +303,7 @@ pub fn is_collection_plain(
 }
 
 /// Whether one that also clears all soft references may.
-pub fn is_clearing_plain(
+pub(crate) fn is_clearing_plain(
     alloc: Global,
     objects: &Table<Object>,
     base: &[Slot],
@@ -355,7 +355,7 @@ fn is_cut_off_in_background(
 }
 
 /// Whether a background collection, with these roots and with this seen, may keep these and hand those over.
-pub fn is_background_plain(
+pub(crate) fn is_background_plain(
     alloc: Global,
     objects: &Table<Object>,
     roots: &[Slot],

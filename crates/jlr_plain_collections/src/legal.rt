@@ -65,7 +65,11 @@ pub fn background_tested(
 }
 
 /// Whether it is a full collection.
-pub fn is_full_plain(alloc: Global, machine: &Machine, c: &Collected) -> Result<bool, AllocError>
+pub(crate) fn is_full_plain(
+    alloc: Global,
+    machine: &Machine,
+    c: &Collected,
+) -> Result<bool, AllocError>
     requires cells { length machine.now.objects ≤ 2 ^ 32 }
     requires within { IsWithinHeap machine.now.objects (roots machine.now) }
     ensures { IfOk result (λ b. IsTrue b ↔ IsFull machine.now c.now.kept c.now.pending) }
@@ -74,7 +78,7 @@ pub fn is_full_plain(alloc: Global, machine: &Machine, c: &Collected) -> Result<
 }
 
 /// Whether it is a full collection that clears all soft references.
-pub fn is_full_clearing_plain(
+pub(crate) fn is_full_clearing_plain(
     alloc: Global,
     machine: &Machine,
     c: &Collected,
@@ -87,7 +91,7 @@ pub fn is_full_clearing_plain(
 }
 
 /// Whether it is a background collection.
-pub fn is_background_collection_plain(
+pub(crate) fn is_background_collection_plain(
     alloc: Global,
     machine: &Machine,
     c: &Collected,

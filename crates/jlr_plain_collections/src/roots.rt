@@ -117,7 +117,7 @@ fn push_roots(out: &mut Vec<Slot>, machine: &Machine) -> Result<(), AllocError>
 
 /// The slots that handles, fences and names stand for, the pending list, the line, and the Armed and Pending
 /// cleanables.
-pub fn roots_plain(alloc: Global, machine: &Machine) -> Result<Vec<Slot>, AllocError>
+pub(crate) fn roots_plain(alloc: Global, machine: &Machine) -> Result<Vec<Slot>, AllocError>
     requires { length machine.now.objects ≤ 2 ^ 32 }
     ensures { IfOk result (λ v. v.items ≡ roots machine.now) }
 {

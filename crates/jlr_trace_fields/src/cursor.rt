@@ -25,7 +25,7 @@ pub fn take_u8(bytes: &mut &[u8]) -> Result<u8, ReadError>
 }
 
 /// A number of two bytes.
-pub fn take_u16(bytes: &mut &[u8]) -> Result<u16, ReadError>
+pub(crate) fn take_u16(bytes: &mut &[u8]) -> Result<u16, ReadError>
     ensures { Reads (λ x. x) result bytes.new.now (number_at w16 bytes.old.now) }
 {
     let (value, rest) = u16_at(bytes)?;
@@ -99,7 +99,7 @@ pub fn take_picked<T: Copy>(first: u8, table: &[T], bytes: &mut &[u8]) -> Result
 }
 
 /// A slot.
-pub fn take_slot(bytes: &mut &[u8]) -> Result<Slot, ReadError>
+pub(crate) fn take_slot(bytes: &mut &[u8]) -> Result<Slot, ReadError>
     ensures { Reads (λ x. x) result bytes.new.now (number_at w32 bytes.old.now) }
 {
     let number = take_u32(bytes)?;

@@ -7,7 +7,7 @@ use bstr::ByteSlice;
 /// What stands before the first such byte, and what stands after it; `None` where there is no
 /// such byte. It is inlined: lines and fields are short.
 #[inline(always)]
-pub fn cut_at<'a>(bytes: &'a [u8], byte: u8) -> Option<(&'a [u8], &'a [u8])>
+pub(crate) fn cut_at<'a>(bytes: &'a [u8], byte: u8) -> Option<(&'a [u8], &'a [u8])>
     ensures cut { MatchOption result (IsWithout byte bytes.now)
         (λ cut. IsWithout byte cut.0.now × (bytes.now ≡ cut.0.now ++ byte ∷ cut.1.now)) }
     ensures room { MatchOption result (Unit {0}) (λ cut. length cut.0.now + length cut.1.now + 1 ≡ length bytes.now) }

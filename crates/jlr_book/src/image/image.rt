@@ -85,7 +85,7 @@ impl Image {
 
     /// Whether something is left to be followed, or to be let go.
     #[inline(always)]
-    pub fn is_behind(&self) -> bool {
+    pub(crate) fn is_behind(&self) -> bool {
         !self.entries.is_empty()
     }
 
@@ -100,7 +100,7 @@ impl Image {
     /// Whether a cut is to be followed, and not copied: where a copy would be long, as the trace may tell by an array
     /// that was made, or costs more than to follow the entries, since they are fewer than the cells. It is copied where
     /// following has become more work than that.
-    pub fn is_followed(&mut self, trace: &[Entry]) -> bool
+    pub(crate) fn is_followed(&mut self, trace: &[Entry]) -> bool
         ensures { self.new ≡ self.old }
     {
         let gives_up = self.has_given_up();

@@ -101,7 +101,7 @@ fn push_page(alloc: Global, text: &mut String, form: Form) -> Result<(), AllocEr
 }
 
 /// Whether a form is meant by this word: its own, or the first of two.
-pub fn is_meant(form: Form, word: &[u8]) -> bool {
+pub(crate) fn is_meant(form: Form, word: &[u8]) -> bool {
     let name = form.name().as_bytes();
     name == word || (word == b"gc".as_slice() && name == b"gc soft".as_slice())
 }

@@ -125,7 +125,7 @@ fn all_names_agree(left: &[Name], right: &[Binding]) -> bool
     true
 }
 
-pub fn is_done(answer: &Answer) -> bool
+pub(crate) fn is_done(answer: &Answer) -> bool
     ensures { result ≡ same_answer answer.now Done }
 {
     match answer {
@@ -189,7 +189,7 @@ pub fn is_faulted(answer: &Answer, fault: Fault) -> bool
 }
 
 /// Whether it says how a call on a resource ended.
-pub fn is_outcome(answer: &Answer, outcome: &CallOutcome) -> bool
+pub(crate) fn is_outcome(answer: &Answer, outcome: &CallOutcome) -> bool
     ensures { result ≡ same_answer answer.now (call_answer outcome.now) }
 {
     match outcome {
@@ -245,7 +245,7 @@ pub fn is_job(answer: &Answer, action: ActionNo, work: Work) -> bool
     }
 }
 
-pub fn is_already_done(answer: &Answer) -> bool
+pub(crate) fn is_already_done(answer: &Answer) -> bool
     ensures { result ≡ same_answer answer.now AlreadyDone }
 {
     match answer {
@@ -254,7 +254,7 @@ pub fn is_already_done(answer: &Answer) -> bool
     }
 }
 
-pub fn is_given_out(answer: &Answer, rid: Rid) -> bool
+pub(crate) fn is_given_out(answer: &Answer, rid: Rid) -> bool
     ensures { result ≡ same_answer answer.now (Out rid) }
 {
     match answer {

@@ -33,7 +33,7 @@ fn step_for_cleanable(state: CleanState) -> Handed
 }
 
 /// What the handler does with an object of the pending list.
-pub fn step_for(object: &Object) -> Handed
+pub(crate) fn step_for(object: &Object) -> Handed
     ensures { result ≡ handed object.now }
 {
     match object {
@@ -64,7 +64,7 @@ fn lined_at(machine: &Machine, slot: Slot) -> bool
 }
 
 /// The line from its first Lined cleanable on.
-pub fn line_from<'a>(machine: &Machine, slots: &'a [Slot]) -> &'a [Slot]
+pub(crate) fn line_from<'a>(machine: &Machine, slots: &'a [Slot]) -> &'a [Slot]
     ensures { result.now ≡ from_lined machine.now slots.now }
 {
     for i in 0..slots.len() {

@@ -27,7 +27,7 @@ use jlr_machine::object::{Cleanable, RefState};
 use jlr_types::{FieldNo, FieldValue, Handle, Mutator, Slot};
 
 /// The lowest free number from 1 on.
-pub fn first_free_handle(handles: &[Option<Slot>]) -> usize
+pub(crate) fn first_free_handle(handles: &[Option<Slot>]) -> usize
     ensures { result ≡ first_free 1 (drop 1 handles.now) }
 {
     if handles.is_empty() {
@@ -42,7 +42,7 @@ pub fn first_free_handle(handles: &[Option<Slot>]) -> usize
 }
 
 /// The lowest free handle of a session.
-pub fn free_handle_of(session: &Session) -> usize
+pub(crate) fn free_handle_of(session: &Session) -> usize
     ensures { result ≡ free_handle session.now }
 {
     first_free_handle(session.handles.as_slice())

@@ -23,7 +23,7 @@ fn push_each<T: Copy>(out: &mut Vec<T>, items: &[T]) -> Result<(), AllocError>
 }
 
 /// The jobs with one more, by rising actions.
-pub fn job_added(alloc: Global, jobs: &[Job], job: Job) -> Result<Vec<Job>, AllocError>
+pub(crate) fn job_added(alloc: Global, jobs: &[Job], job: Job) -> Result<Vec<Job>, AllocError>
     ensures { IfOk result (λ v. v.items ≡ with_job jobs.now job) }
 {
     let mut out = Vec::new(alloc);
@@ -41,7 +41,11 @@ pub fn job_added(alloc: Global, jobs: &[Job], job: Job) -> Result<Vec<Job>, Allo
 }
 
 /// The jobs without that of an action.
-pub fn job_removed(alloc: Global, jobs: &[Job], action: ActionNo) -> Result<Vec<Job>, AllocError>
+pub(crate) fn job_removed(
+    alloc: Global,
+    jobs: &[Job],
+    action: ActionNo,
+) -> Result<Vec<Job>, AllocError>
     ensures { IfOk result (λ v. v.items ≡ without_job jobs.now action) }
 {
     let mut out = Vec::new(alloc);
@@ -54,7 +58,7 @@ pub fn job_removed(alloc: Global, jobs: &[Job], action: ActionNo) -> Result<Vec<
 }
 
 /// The resources with one more, by rising Rids.
-pub fn resource_added(
+pub(crate) fn resource_added(
     alloc: Global,
     resources: &[Resource],
     resource: Resource,
@@ -90,7 +94,7 @@ fn moved(resource: &Resource, rid: Rid, state: ResourceState) -> Resource
 }
 
 /// The resources, with the one that has this Rid in that state.
-pub fn resource_moved(
+pub(crate) fn resource_moved(
     alloc: Global,
     resources: &[Resource],
     rid: Rid,
@@ -107,7 +111,7 @@ pub fn resource_moved(
 }
 
 /// The resources without the one that has this Rid.
-pub fn resource_removed(
+pub(crate) fn resource_removed(
     alloc: Global,
     resources: &[Resource],
     rid: Rid,
@@ -142,7 +146,7 @@ fn make_binding(name: &Name, slot: Slot) -> Binding
 }
 
 /// The names with this one bound; an old name keeps its place.
-pub fn name_bound(
+pub(crate) fn name_bound(
     alloc: Global,
     names: &[Binding],
     name: &Name,
@@ -165,7 +169,7 @@ pub fn name_bound(
 }
 
 /// The names without this one.
-pub fn name_unbound(
+pub(crate) fn name_unbound(
     alloc: Global,
     names: &[Binding],
     name: &[u8],
@@ -182,7 +186,7 @@ pub fn name_unbound(
 }
 
 /// These with one more, of which the last 256 are kept.
-pub fn last_with<T: Copy>(alloc: Global, items: &[T], item: T) -> Result<Vec<T>, AllocError>
+pub(crate) fn last_with<T: Copy>(alloc: Global, items: &[T], item: T) -> Result<Vec<T>, AllocError>
     ensures { IfOk result (λ v. v.items ≡ last_256 (items.now ++ item ∷ [])) }
 {
     let mut all = copy_slice(alloc, items)?;

@@ -109,7 +109,7 @@ fn changed_reference(r: Reference, change: Change) -> Reference
 }
 
 /// A list of slots without its first.
-pub fn drop_first(alloc: Global, slots: &mut Items<Slot>)
+pub(crate) fn drop_first(alloc: Global, slots: &mut Items<Slot>)
     ensures { slots.new ≡ drop 1 slots.old }
 {
     let mut left = replace(slots, Items::new(alloc)).into_vec();
@@ -229,7 +229,7 @@ fn take_places(alloc: Global, machine: &mut Machine) -> Vec<Option<Object>>
 }
 
 /// Puts this at the slot.
-pub fn put_place(alloc: Global, machine: &mut Machine, slot: Slot, place: Option<Object>)
+pub(crate) fn put_place(alloc: Global, machine: &mut Machine, slot: Slot, place: Option<Object>)
     ensures { machine.new ≡ record machine.old { objects = slice_set machine.old.objects slot place } }
 {
     let mut places = take_places(alloc, machine);
@@ -238,7 +238,7 @@ pub fn put_place(alloc: Global, machine: &mut Machine, slot: Slot, place: Option
 }
 
 /// Changes the object at the slot. Takes no memory.
-pub fn change_in(alloc: Global, machine: &mut Machine, slot: Slot, change: Change)
+pub(crate) fn change_in(alloc: Global, machine: &mut Machine, slot: Slot, change: Change)
     ensures { machine.new ≡ with_object machine.old slot (change_of change) }
 {
     let mut places = take_places(alloc, machine);

@@ -66,7 +66,7 @@ fn poll_to(alloc: Global, machine: &mut Machine, mutator: Mutator, queue: Slot, 
 }
 
 /// Removes the front of a queue from it and gives it to the mutator. Takes no memory.
-pub fn poll_for(
+pub(crate) fn poll_for(
     alloc: Global,
     machine: &mut Machine,
     mutator: Mutator,

@@ -106,7 +106,12 @@ fn take_seats(alloc: Global, machine: &mut Machine) -> Vec<Option<Session>>
 }
 
 /// Puts this as the session of the mutator.
-pub fn put_seat(alloc: Global, machine: &mut Machine, mutator: Mutator, seat: Option<Session>)
+pub(crate) fn put_seat(
+    alloc: Global,
+    machine: &mut Machine,
+    mutator: Mutator,
+    seat: Option<Session>,
+)
     ensures { machine.new ≡ record machine.old { mutators = slice_set machine.old.mutators mutator seat } }
 {
     let mut seats = take_seats(alloc, machine);
@@ -115,7 +120,12 @@ pub fn put_seat(alloc: Global, machine: &mut Machine, mutator: Mutator, seat: Op
 }
 
 /// Changes the session of the mutator. Takes no memory.
-pub fn change_seat(alloc: Global, machine: &mut Machine, mutator: Mutator, change: SessionChange)
+pub(crate) fn change_seat(
+    alloc: Global,
+    machine: &mut Machine,
+    mutator: Mutator,
+    change: SessionChange,
+)
     ensures { machine.new ≡ with_session machine.old mutator (session_change_of change) }
 {
     let mut seats = take_seats(alloc, machine);
@@ -124,7 +134,7 @@ pub fn change_seat(alloc: Global, machine: &mut Machine, mutator: Mutator, chang
 }
 
 /// A session that holds nothing.
-pub fn new_session(alloc: Global) -> Result<Session, AllocError>
+pub(crate) fn new_session(alloc: Global) -> Result<Session, AllocError>
     ensures { IfOk result (λ s. s ≡ fresh_session) }
 {
     let mut places = Vec::new(alloc);

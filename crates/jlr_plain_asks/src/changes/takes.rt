@@ -19,7 +19,7 @@ use jlr_types::{Mutator, Rid, Slot, Work};
 use std::alloc::{AllocError, Global};
 
 /// Puts the mutator into this call, with this fence. Takes no memory.
-pub fn put_in_call(
+pub(crate) fn put_in_call(
     alloc: Global,
     machine: &mut Machine,
     mutator: Mutator,
@@ -35,7 +35,7 @@ pub fn put_in_call(
 ///
 /// # Errors
 /// `AllocError` where there is no memory. The machine is then as it was.
-pub fn move_resource(
+pub(crate) fn move_resource(
     alloc: Global,
     machine: &mut Machine,
     rid: Rid,
@@ -53,7 +53,11 @@ pub fn move_resource(
 ///
 /// # Errors
 /// `AllocError` where there is no memory. The machine is then as it was.
-pub fn remove_resource(alloc: Global, machine: &mut Machine, rid: Rid) -> Result<(), AllocError>
+pub(crate) fn remove_resource(
+    alloc: Global,
+    machine: &mut Machine,
+    rid: Rid,
+) -> Result<(), AllocError>
     ensures ok { OnOk result (machine.new ≡ without_resource machine.old rid) }
     ensures err { OnErr result (machine.new ≡ machine.old) }
 {
@@ -81,7 +85,11 @@ fn move_work(
 ///
 /// # Errors
 /// `AllocError` where there is no memory. The machine is then as it was.
-pub fn remove_work(alloc: Global, machine: &mut Machine, work: Work) -> Result<(), AllocError>
+pub(crate) fn remove_work(
+    alloc: Global,
+    machine: &mut Machine,
+    work: Work,
+) -> Result<(), AllocError>
     ensures ok { OnOk result (machine.new ≡ without_work_resource machine.old (rid_of work)) }
     ensures err { OnErr result (machine.new ≡ machine.old) }
 {
@@ -143,7 +151,7 @@ fn clean_one(
 ///
 /// # Errors
 /// `AllocError` where there is no memory. The machine is then as it was.
-pub fn clean_by(
+pub(crate) fn clean_by(
     alloc: Global,
     machine: &mut Machine,
     mutator: Mutator,
@@ -192,7 +200,7 @@ fn take_up_first(
 ///
 /// # Errors
 /// `AllocError` where there is no memory. The machine is then as it was.
-pub fn take_line(alloc: Global, machine: &mut Machine) -> Result<(), AllocError>
+pub(crate) fn take_line(alloc: Global, machine: &mut Machine) -> Result<(), AllocError>
     requires { machine.old.taken + 1 < 2 ^ 64 }
     ensures ok { OnOk result (machine.new ≡ line_taken machine.old (from_lined machine.old machine.old.line)) }
     ensures err { OnErr result (machine.new ≡ machine.old) }

@@ -134,7 +134,7 @@ fn refused_answer(bytes: &mut &[u8]) -> Result<Answer, ReadError>
 
 /// An answer from the front: its number, and its fields.
 #[tactic(auto, unfolding(crate::specs::Answers::answer_read))]
-pub fn take_answer(alloc: Global, bytes: &mut &[u8]) -> Result<Answer, ReadError>
+pub(crate) fn take_answer(alloc: Global, bytes: &mut &[u8]) -> Result<Answer, ReadError>
     ensures { Reads (λ x. x) result bytes.new.now (answer_read bytes.old.now) }
 {
     let tag = tag_at(bytes)?;

@@ -72,7 +72,7 @@ fn put_body(out: &mut Vec<u8>, answer: &Answer) -> Result<(), AllocError>
 }
 
 /// Writes an answer.
-pub fn put_answer(out: &mut Vec<u8>, answer: &Answer) -> Result<(), AllocError>
+pub(crate) fn put_answer(out: &mut Vec<u8>, answer: &Answer) -> Result<(), AllocError>
     requires { AnswerCounts answer.now }
     ensures { OnOk result (out.new.items ≡ out.old.items ++ spelled_answer answer.now) }
 {

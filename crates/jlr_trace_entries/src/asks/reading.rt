@@ -392,7 +392,7 @@ fn array_at(version: Version, bytes: &mut &[u8]) -> Result<Ask, ReadError>
 
 /// An ask from the front: its number, and its fields.
 #[tactic(auto, unfolding(crate::specs::Asks::ask_read))]
-pub fn take_ask(alloc: Global, version: Version, bytes: &mut &[u8]) -> Result<Ask, ReadError>
+pub(crate) fn take_ask(alloc: Global, version: Version, bytes: &mut &[u8]) -> Result<Ask, ReadError>
     ensures { Reads (λ x. x) result bytes.new.now (ask_read version bytes.old.now) }
 {
     let tag = tag_at(bytes)?;

@@ -92,7 +92,7 @@ fn put_finish(
 }
 
 /// Writes an ask.
-pub fn put_ask(out: &mut Vec<u8>, version: Version, ask: &Ask) -> Result<(), AllocError>
+pub(crate) fn put_ask(out: &mut Vec<u8>, version: Version, ask: &Ask) -> Result<(), AllocError>
     requires { AskFits version ask.now }
     ensures { OnOk result (out.new.items ≡ out.old.items ++ spelled_ask version ask.now) }
 {

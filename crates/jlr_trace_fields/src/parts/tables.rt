@@ -42,7 +42,7 @@ pub fn put_ref_kind(out: &mut Vec<u8>, ref_kind: RefKind) -> Result<(), AllocErr
 }
 
 /// How far a reference came.
-pub fn take_ref_state(bytes: &mut &[u8]) -> Result<RefState, ReadError>
+pub(crate) fn take_ref_state(bytes: &mut &[u8]) -> Result<RefState, ReadError>
     ensures { Reads (λ x. x) result bytes.new.now (picked_at 0 ref_states bytes.old.now) }
 {
     let table = [
@@ -66,14 +66,14 @@ fn ref_state_number(ref_state: RefState) -> u8
 }
 
 /// Writes how far a reference came.
-pub fn put_ref_state(out: &mut Vec<u8>, ref_state: RefState) -> Result<(), AllocError>
+pub(crate) fn put_ref_state(out: &mut Vec<u8>, ref_state: RefState) -> Result<(), AllocError>
     ensures { OnOk result (out.new.items ≡ out.old.items ++ spelled_8 (number_of_ref_state ref_state)) }
 {
     put_u8(out, ref_state_number(ref_state))
 }
 
 /// How far a cleanable came.
-pub fn take_clean_state(bytes: &mut &[u8]) -> Result<CleanState, ReadError>
+pub(crate) fn take_clean_state(bytes: &mut &[u8]) -> Result<CleanState, ReadError>
     ensures { Reads (λ x. x) result bytes.new.now (picked_at 0 clean_states bytes.old.now) }
 {
     let table = [
@@ -97,14 +97,14 @@ fn clean_state_number(clean_state: CleanState) -> u8
 }
 
 /// Writes how far a cleanable came.
-pub fn put_clean_state(out: &mut Vec<u8>, clean_state: CleanState) -> Result<(), AllocError>
+pub(crate) fn put_clean_state(out: &mut Vec<u8>, clean_state: CleanState) -> Result<(), AllocError>
     ensures { OnOk result (out.new.items ≡ out.old.items ++ spelled_8 (number_of_clean_state clean_state)) }
 {
     put_u8(out, clean_state_number(clean_state))
 }
 
 /// Where a resource is.
-pub fn take_resource_state(bytes: &mut &[u8]) -> Result<ResourceState, ReadError>
+pub(crate) fn take_resource_state(bytes: &mut &[u8]) -> Result<ResourceState, ReadError>
     ensures { Reads (λ x. x) result bytes.new.now (picked_at 0 resource_states bytes.old.now) }
 {
     let table = [
@@ -128,7 +128,7 @@ fn resource_state_number(resource_state: ResourceState) -> u8
 }
 
 /// Writes where a resource is.
-pub fn put_resource_state(
+pub(crate) fn put_resource_state(
     out: &mut Vec<u8>,
     resource_state: ResourceState,
 ) -> Result<(), AllocError>
