@@ -4,8 +4,8 @@ use Rattle.jlr_trace_fields.specs.declared.version.Version.{Version}
 use Rattle.jlr_trace_fields.specs.Laws.{TakesSpelled, ReadsAgain, IsField}
 use Rattle.jlr_trace_fields.proofs.Basics.{byte}
 use Rattle.jlr_trace_fields.proofs.Products.{four_takes, four_again}
-use Rattle.jlr_trace_entries.proofs.Asks.{ask}
-use Rattle.jlr_trace_entries.proofs.Answers.{answer}
+use Rattle.jlr_trace_entries.proofs.AskLaws.{ask}
+use Rattle.jlr_trace_entries.proofs.AnswerLaws.{answer}
 use Rattle.jlr_trace_entries.specs.Entries.{spelled_entry, EntryFits, made_entry, entry_read}
 use Rattle.jlr_trace_entries.proofs.ChoiceLaws.{choice}
 

@@ -6,5 +6,5 @@ pub mod WritingLaws
 pub mod Shapes
 pub mod SectionCounts
 pub mod Few
-pub mod Asks
-pub mod Answers
+pub mod AskLaws
+pub mod AnswerLaws
