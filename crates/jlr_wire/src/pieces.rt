@@ -40,7 +40,7 @@ pub enum LineAt {
     /// The line lies whole in the bytes that were taken, before its end.
     Bytes,
     /// The line came in pieces or is too long: what is held of it.
-    HeldLine,
+    Held,
 }
 
 /// How many of the bytes were taken, and where the line lies that ended in them.
@@ -134,7 +134,7 @@ impl Pieces {
         let at = if fed.got == Got::More {
             LineAt::Nowhere
         } else {
-            LineAt::HeldLine
+            LineAt::Held
         };
         Next { used: fed.used, at }
     }
