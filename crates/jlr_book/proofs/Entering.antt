@@ -38,7 +38,7 @@ use Rattle.jlr_event.specs.declared.event.Reply.TheVariants.{Answered, Marked}
 use Rattle.jlr_event.specs.Asks.{hands_in}
 use Rattle.jlr_event.specs.Events.{ask_of, answer_in}
 use Rattle.jlr_core.specs.Cores.{Kept, StandsIn}
-use Rattle.jlr_core.specs.Events.{Enters, carries_none}
+use Rattle.jlr_core.specs.Events.{EntersLegally, carries_none}
 use Rattle.jlr_core.specs.Events.{GoesOut}
 use Rattle.jlr_core.specs.Events.{entry_of}
 use Rattle.jlr_core.specs.Steps.{IsStep}
@@ -60,7 +60,7 @@ run_snoc m n [] e r l = subst (λ k. IsLegal k e × (apply n e ≡ apply k e)) r
 run_snoc m n (x ∷ entries) e r l = (r.0, run_snoc (apply m x) n entries e r.1 l)
 
 entered : (image m n : Machine) (entries : List Entry) (seat : ℕ) (ask : Option Ask) (answer : Option Answer) (chosen : Chosen)
-    → Run image entries m → IsWellFormed m → IsUpToDate m → Enters m ask answer chosen n
+    → Run image entries m → IsWellFormed m → IsUpToDate m → EntersLegally m ask answer chosen n
     → Run image (entries ++ option_to_list (seated seat ask answer chosen)) n × IsWellFormed n × IsUpToDate n
 entered image m n entries seat (Some ask) (Some answer) chosen r w u e =
     let entry = entry_by seat ask answer chosen in
@@ -92,29 +92,30 @@ ends_more image entries h k seat e reply chosen s ends =
 -- a step that is answered is a legal entry of the machine for which the core stands, and leads on
 module _ {R : Type 0} (h k : Kept R) (e : Event R) (answer : Answer) (resource : Option R) (chosen : Chosen) (asked : Ask) where
   pub as_entered : (s : IsStep h e (Answered answer resource) chosen k) → ask_of e ≡ Some asked → (st : Stands h) → (n : Machine)
-      × Enters st.0 (Some asked) (Some answer) chosen n × StandsIn k n
+      × EntersLegally st.0 (Some asked) (Some answer) chosen n × StandsIn k n
   as_entered s is st =
       let x = s.entry st.0 st.1 in
-      (x.0, subst (λ o. Enters st.0 o (Some answer) chosen x.0) is x.1, x.2)
+      (x.0, subst (λ o. EntersLegally st.0 o (Some answer) chosen x.0) is x.1, x.2)
 
 -- an ask is answered
 pub not_marked : {R : Type 0} (h k : Kept R) (e : Event R) (progress : Progress) (chosen : Chosen) (asked : Ask)
     → IsStep h e (Marked progress) chosen k → ask_of e ≡ Some asked → Stands h → ⊥
 not_marked h k e progress chosen asked s is st =
     let x = s.entry st.0 st.1 in
-    absurd (subst (λ o. Enters st.0 o None chosen x.0) is x.1)
+    absurd (subst (λ o. EntersLegally st.0 o None chosen x.0) is x.1)
 
 -- ---- Choices
 
 -- the machine for which a core stands may collect as the one that it keeps
 module _ (m : Machine) (ask : Option Ask) (answer : Option Answer) (chosen : Chosen) (n : Machine) where
-  pub none_collected : Enters m ask answer chosen n → may_collect m ask ≡ false → chosen.collected ≡ None
-  none_collected = elim ask as (λ o. Enters m o answer chosen n → may_collect m o ≡ false → chosen.collected ≡ None) [
-    | None ↦ elim answer as (λ a. Enters m None a chosen n → may_collect m None ≡ false → chosen.collected ≡ None) [
+  pub none_collected : EntersLegally m ask answer chosen n → may_collect m ask ≡ false → chosen.collected ≡ None
+  none_collected = elim ask as (λ o. EntersLegally m o answer chosen n → may_collect m o ≡ false → chosen.collected ≡ None) [
+    | None ↦ elim answer as (λ a. EntersLegally m None a chosen n → may_collect m None ≡ false → chosen.collected ≡ None) [
       | None ↦ λ x may. ap {A = Chosen} {B = Option Collected} (λ c. c.collected) x.0
       | Some a ↦ λ x may. absurd x
     ]
-    | Some asked ↦ elim answer as (λ a. Enters m (Some asked) a chosen n → may_collect m (Some asked) ≡ false → chosen.collected ≡ None) [
+    | Some asked ↦ elim answer as (λ a. EntersLegally m (Some asked) a chosen n → may_collect m (Some asked) ≡ false → chosen.collected
+        ≡ None) [
       | None ↦ λ x may. absurd x
       | Some a ↦ λ x may. no_collection_unless_it_may m (entry_of asked a chosen) x.0 may
     ]
@@ -187,8 +188,10 @@ pub refused_stays : {R : Type 0} (image : Machine) (entries : List Entry) (h k :
 refused_stays image entries h k e reply chosen asked by s is end was ends =
     let m = ends.0 in
     let x = s.entry m ends.2 in
-    let first : Enters m (Some asked) (answer_in reply) chosen x.0 = subst (λ o. Enters m o (answer_in reply) chosen x.0) is x.1 in
-    let enters : Enters m (Some asked) (Some (Refused by)) chosen x.0 = subst (λ o. Enters m (Some asked) o chosen x.0) was first in
+    let first : EntersLegally m (Some asked) (answer_in reply) chosen x.0 = subst (λ o. EntersLegally m o (answer_in reply) chosen x.0) is
+        x.1 in
+    let enters : EntersLegally m (Some asked) (Some (Refused by)) chosen x.0 = subst (λ o. EntersLegally m (Some asked) o chosen x.0) was
+        first in
     let none = end_chooses m asked (Refused by) chosen end enters.0 in
     let same : apply m (entry_of asked (Refused by) chosen) ≡ m =
     ap {A = Chosen} {B = Machine} (λ c. apply m (entry_of asked (Refused by) c)) none

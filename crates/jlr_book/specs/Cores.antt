@@ -2,5 +2,5 @@
 -- state.
 pub use Rattle.jlr_core.specs.Cores.{Kept, StandsIn}
 pub use Rattle.jlr_core.specs.Steps.{IsStep, Steps}
-pub use Rattle.jlr_core.specs.Events.{Enters, GoesOut, MayWantMemory, WantsMemory, entry_of, handed_out}
+pub use Rattle.jlr_core.specs.Events.{EntersLegally, GoesOut, MayWantMemory, WantsMemory, entry_of, handed_out}
 pub use Rattle.jlr_core.specs.Events.{take_up_answered}

@@ -40,7 +40,7 @@ use Rattle.jlr_event.specs.declared.event.Reply.{Reply}
 use Rattle.jlr_event.specs.declared.event.Reply.TheVariants.{Answered, Marked}
 use Rattle.jlr_event.specs.Events.{ask_of, resource_of_event}
 use Rattle.jlr_core.specs.Cores.{Kept}
-use Rattle.jlr_core.specs.Events.{Enters, GoesOut, entry_of}
+use Rattle.jlr_core.specs.Events.{EntersLegally, GoesOut, entry_of}
 use Rattle.jlr_core.specs.Steps.{IsEmpty, IsStep}
 use Rattle.jlr_embed.specs.Kinds.{GoesBack, tells_done, is_faulted, is_prepared, kind_of_call, kind_of_finish, is_handle, is_job_answer}
 use Rattle.jlr_embed.specs.Kinds.{is_integer}
@@ -169,7 +169,7 @@ legal m e (refused x) = subst (λ a. is_told (answer_kind e.ask) a ≡ true) (sy
 legal m e (heap_full x) = subst (λ a. is_told (answer_kind e.ask) a ≡ true) (sym x.answers) refl
 legal m e (out_of_memory x) = subst (λ a. is_told (answer_kind e.ask) a ≡ true) (sym x.answers) refl
 
-entered : (m n : Machine) (ask : Option Ask) (a : Answer) (chosen : Chosen) → Enters m ask (Some a) chosen n
+entered : (m n : Machine) (ask : Option Ask) (a : Answer) (chosen : Chosen) → EntersLegally m ask (Some a) chosen n
     → is_told (kind_asked ask) a ≡ true
 entered m n (Some ask) a chosen e = legal m (entry_of ask a chosen) e.0
 entered m n None a chosen e = absurd e
@@ -262,7 +262,7 @@ module _ {R : Type 0} (old new : Kept R) (event : Event R) (reply : Reply R) (ch
   back_carried a out e = let known : IsStep old event (Answered a out) chosen new = subst (λ r. IsStep old event r chosen new) e step in
       goes_back old.table (resource_of_event event) a out known.goes_out
 
-  none_marked : (m n : Machine) (ask : Option Ask) → Enters m ask None chosen n → is_none ask ≡ false → ⊥
+  none_marked : (m n : Machine) (ask : Option Ask) → EntersLegally m ask None chosen n → is_none ask ≡ false → ⊥
   none_marked m n (Some ask) e is_some = e
   none_marked m n None e is_some = both_ways true is_some refl
 

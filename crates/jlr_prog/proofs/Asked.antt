@@ -23,10 +23,10 @@ use Rattle.jlr_event.specs.declared.event.Event.TheVariants as event
 use Rattle.jlr_event.specs.declared.event.Reply.{Reply}
 use Rattle.jlr_event.specs.declared.event.Reply.TheVariants.{Answered}
 use Rattle.jlr_event.specs.Events.{ask_of, answer_in, resource_of_reply, outcome_of}
-use Rattle.jlr_prog.specs.Cores.{GoesOut, entry_of}
+use Rattle.jlr_book.specs.Cores.{GoesOut, entry_of}
 use Rattle.jlr_session.specs.Asks.{room_prepared, prepared_by, out_with, out_by, job_with, job_by}
-use Rattle.jlr_prog.specs.Histories.{History}
-use Rattle.jlr_prog.specs.Rules.{BookSteps}
+use Rattle.jlr_book.specs.Histories.{History}
+use Rattle.jlr_book.specs.Rules.{BookSteps}
 use Rattle.jlr_prog.specs.Solos.{at_book, cleaner_seat, handler_seat}
 use Rattle.jlr_prog.specs.Wholes.{WholeRun, WholeSteps, at_whole}
 use Rattle.jlr_prog.proofs.Staying.{Stays, entry_stays, hand_over_stays, take_up_stays, finish_stays}

@@ -28,8 +28,8 @@ use Rattle.jlr_session.specs.Asks.{TellsConnected, TellsRead, TellsWritten, Tell
 use Rattle.jlr_session.specs.Sessions.{Ended}
 use Rattle.jlr_session.specs.declared.shell.SessionEnd.{SessionEnd}
 use Rattle.jlr_session.proofs.Following.{IsFollowed, ended_along}
-use Rattle.jlr_prog.specs.Histories.{History}
-use Rattle.jlr_prog.specs.Rules.{BookSteps}
+use Rattle.jlr_book.specs.Histories.{History}
+use Rattle.jlr_book.specs.Rules.{BookSteps}
 use Rattle.jlr_prog.specs.Solos.{at_book, by_book}
 use Rattle.jlr_prog.specs.Wholes.{WholeRun, WholeSteps, at_whole, by_whole}
 use Rattle.jlr_prog.proofs.Staying.{Stays, changed, given_stays, made_stays, put_stays, asked_enqueue_stays, asked_poll_stays, bound_stays}

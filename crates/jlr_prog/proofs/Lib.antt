@@ -8,5 +8,3 @@ pub mod Histories
 pub mod HandingOver
 pub mod TakingUp
 pub mod Turns
-pub use Rattle.jlr_book.proofs.Cores
-pub use Rattle.jlr_book.proofs.Entering

@@ -24,11 +24,11 @@ use Rattle.jlr_event.specs.declared.event.Event.TheVariants as event
 use Rattle.jlr_event.specs.declared.event.Reply.{Reply}
 use Rattle.jlr_event.specs.declared.event.Reply.TheVariants.{Answered, Marked}
 use Rattle.jlr_event.specs.Events.{ask_of, answer_in}
-use Rattle.jlr_prog.specs.Cores.{Kept, StandsIn, Enters, entry_of, IsStep}
-use Rattle.jlr_prog.specs.Histories.{History, seated}
-use Rattle.jlr_prog.specs.Rules.{AsksBy, BookSteps, Cuts, Declines, EndsBy, GivesUp, Readies, StepsBy}
-use Rattle.jlr_prog.specs.Rules as rules
-use Rattle.jlr_prog.proofs.Entering.{abandon_answers, end_chooses}
+use Rattle.jlr_book.specs.Cores.{Kept, StandsIn, EntersLegally, entry_of, IsStep}
+use Rattle.jlr_book.specs.Histories.{History, seated}
+use Rattle.jlr_book.specs.Rules.{AsksBy, BookSteps, Cuts, Declines, EndsBy, GivesUp, Readies, StepsBy}
+use Rattle.jlr_book.specs.Rules as rules
+use Rattle.jlr_book.proofs.Entering.{abandon_answers, end_chooses}
 use Rattle.jlr_prog.specs.Wholes.{WholeRun, WholeSteps, given_up}
 
 -- ---- Lists and bits
@@ -114,7 +114,8 @@ module _ {R : Type 0} (m : Machine) where
   told P Q e asked is seat h k entries (Answered answer resource) chosen s leads a =
       let x = s.entry a.0 a.2 in
       let entry = entry_by seat asked answer chosen in
-      let enters : Enters a.0 (Some asked) (Some answer) chosen x.0 = subst (λ q. Enters a.0 q (Some answer) chosen x.0) is x.1 in
+      let enters : EntersLegally a.0 (Some asked) (Some answer) chosen x.0 = subst (λ q. EntersLegally a.0 q (Some answer) chosen x.0) is
+          x.1 in
       let legal : IsLegal a.0 entry = legality_looks_at_no_seat a.0 (entry_of asked answer chosen) seat enters.0 in
       let applied : x.0 ≡ apply a.0 entry = enters.1 in
       subst (λ q. IsAfter Q k (entries ++ option_to_list (seated seat q (Some answer) chosen))) (sym is) (
@@ -127,7 +128,7 @@ module _ {R : Type 0} (m : Machine) where
       )
   told P Q e asked is seat h k entries (Marked progress) chosen s leads a =
       let x = s.entry a.0 a.2 in
-      absurd (subst (λ q. Enters a.0 q None chosen x.0) is x.1)
+      absurd (subst (λ q. EntersLegally a.0 q None chosen x.0) is x.1)
 
   -- an end that the core turns away leaves the machine
   turned_by : (P Q : Machine → Type 0) (e : Event R) (asked : Ask) → ask_of e ≡ Some asked → is_end asked ≡ true
@@ -136,7 +137,8 @@ module _ {R : Type 0} (m : Machine) where
       → Leads P Q asked (Answered answer resource) chosen → IsAfter P h entries → IsAfter Q k entries
   turned_by P Q e asked is end h k entries answer resource chosen s by was leads a =
       let x = s.entry a.0 a.2 in
-      let enters : Enters a.0 (Some asked) (Some answer) chosen x.0 = subst (λ q. Enters a.0 q (Some answer) chosen x.0) is x.1 in
+      let enters : EntersLegally a.0 (Some asked) (Some answer) chosen x.0 = subst (λ q. EntersLegally a.0 q (Some answer) chosen x.0) is
+          x.1 in
       let same : apply a.0 (entry_of asked answer chosen) ≡ a.0 =
       refused_leaves a.0 asked answer chosen by was (end_chooses a.0 asked answer chosen end enters.0) a.4 in
       (a.0, a.1, subst (StandsIn k) (enters.1 ∙ same) x.2, a.3, a.4, subst Q same (leads a.0 answer resource refl a.3 a.5 enters.0))

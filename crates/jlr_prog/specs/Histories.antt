@@ -8,12 +8,12 @@ use Rattle.jlr_machine.specs.declared.ask.Answer.TheVariants.{Done}
 use Rattle.jlr_machine.specs.declared.entry.Entry.{Entry}
 use Rattle.jlr_machine.specs.Run.{Run, empty}
 use Rattle.jlr_histories.specs.Promises.{KeepsPromises}
-use Rattle.jlr_prog.specs.Cores.{StandsIn}
+use Rattle.jlr_book.specs.Cores.{StandsIn}
 use Rattle.jlr_device.specs.Handling.{Handling}
 use Rattle.jlr_session.specs.Calls.{Opening}
 use Rattle.jlr_session.specs.Serving.{Serves}
 use Rattle.jlr_session.specs.declared.shell.SessionEnd.{SessionEnd}
-use Rattle.jlr_prog.specs.Histories.{History, IsNewBook}
+use Rattle.jlr_book.specs.Histories.{History, IsNewBook}
 use Rattle.jlr_prog.specs.Wholes.{WholeRun, by_whole, since_opening}
 
 -- an ask of mutator 0, answered ok

@@ -1,10 +1,7 @@
--- Reading order.
+-- Reading order. What a session is, and what its book is; then settlings.
 pub mod Wholes
 pub mod Histories
 pub mod Books
 pub mod Settling
 pub mod Solos
 pub mod OneTurn
-pub use Rattle.jlr_book.specs.Cores
-pub use Rattle.jlr_book.specs.Histories
-pub use Rattle.jlr_book.specs.Rules

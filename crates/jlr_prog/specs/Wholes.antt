@@ -7,10 +7,10 @@ use Rattle.jlr_machine.specs.declared.entry.Entry.{Entry}
 use Rattle.jlr_machine.specs.Run.{no_choice}
 use Rattle.jlr_event.specs.declared.event.Event.{Event}
 use Rattle.jlr_event.specs.declared.event.Reply.{Reply}
-use Rattle.jlr_prog.specs.Histories.{History}
+use Rattle.jlr_book.specs.Histories.{History}
 use Rattle.jlr_device.specs.Handling.{Handling}
 use Rattle.jlr_session.specs.Asks.{Asking}
-use Rattle.jlr_prog.specs.Rules.{BookSteps}
+use Rattle.jlr_book.specs.Rules.{BookSteps}
 use Rattle.jlr_prog.specs.Settling.{Helpers, Settles}
 use Rattle.jlr_prog.specs.Solos.{cleaner_seat, handler_seat}
 
