@@ -68,7 +68,7 @@ pub(crate) struct Looks {
 
 impl<R: Drop, L: Naming + Limited> Locked<R, L> {
     pub(crate) fn new(book: Book<R>, keeper: Keeper<Step<R>, L>) -> Self
-        requires whole_history { IsWhole L.limits book keeper.all }
+        requires whole { IsWhole L.limits book keeper.all }
         requires none { keeper.all ≡ [] }
     {
         Locked {
@@ -117,7 +117,7 @@ impl<R: Drop, L: Naming + Limited> Locked<R, L> {
     /// session left with resources open or there was no room for a resource.
     pub(crate) fn is_due(&self) -> bool
         ensures due { IsTrue result ↔ IsDueIn self.now.book self.now.log }
-        ensures whole_history { IsWhole L.limits self.now.book self.now.log }
+        ensures whole { IsWhole L.limits self.now.book self.now.log }
     {
         self.book.marker_due() || self.dues.owed() && !self.book.cycle_open()
     }
@@ -132,7 +132,7 @@ impl<R: Drop, L: Naming + Limited> Locked<R, L> {
     /// Whether something is pending, for the handler.
     pub(crate) fn has_pending(&self) -> bool
         ensures pending { IsTrue result ↔ (self.now.book.core.machine.pending ≢ []) }
-        ensures whole_history { IsWhole L.limits self.now.book self.now.log }
+        ensures whole { IsWhole L.limits self.now.book self.now.log }
     {
         !self.book.pending_empty()
     }
@@ -140,7 +140,7 @@ impl<R: Drop, L: Naming + Limited> Locked<R, L> {
     /// Whether something stands in the cleaner's line.
     pub(crate) fn has_line(&self) -> bool
         ensures line { IsTrue result ↔ (self.now.book.core.machine.line ≢ []) }
-        ensures whole_history { IsWhole L.limits self.now.book self.now.log }
+        ensures whole { IsWhole L.limits self.now.book self.now.log }
     {
         !self.book.line_empty()
     }
