@@ -30,24 +30,24 @@ silent old event new status none stays told = subst (λ (o : Option HeapOfTokens
 -- ---- An answer of a bare kind holds no memory
 
 told_end : (a : Answer) → is_told tells_done a ≡ true → holds_memory a ≡ false
-told_end (Data bytes) told = elim told [ ]
-told_end (Names names) told = elim told [ ]
-told_end (Notes notes) told = elim told [ ]
-told_end (Faults faults) told = elim told [ ]
+told_end (Data bytes) told = sym told
+told_end (Names names) told = sym told
+told_end (Notes notes) told = sym told
+told_end (Faults faults) told = sym told
 told_end a told = refl
 
 told_fault : (a : Answer) → is_told is_faulted a ≡ true → holds_memory a ≡ false
-told_fault (Data bytes) told = elim told [ ]
-told_fault (Names names) told = elim told [ ]
-told_fault (Notes notes) told = elim told [ ]
-told_fault (Faults faults) told = elim told [ ]
+told_fault (Data bytes) told = sym told
+told_fault (Names names) told = sym told
+told_fault (Notes notes) told = sym told
+told_fault (Faults faults) told = sym told
 told_fault a told = refl
 
 told_wrote : (a : Answer) → is_told is_wrote a ≡ true → holds_memory a ≡ false
-told_wrote (Data bytes) told = elim told [ ]
-told_wrote (Names names) told = elim told [ ]
-told_wrote (Notes notes) told = elim told [ ]
-told_wrote (Faults faults) told = elim told [ ]
+told_wrote (Data bytes) told = sym told
+told_wrote (Names names) told = sym told
+told_wrote (Notes notes) told = sym told
+told_wrote (Faults faults) told = sym told
 told_wrote a told = refl
 
 pub bare : (kind : Answer → Bool) (a : Answer) → IsBare kind → is_told kind a ≡ true → holds_memory a ≡ false

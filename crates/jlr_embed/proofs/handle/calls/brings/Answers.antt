@@ -7,5 +7,5 @@ pub returns-in-Some : goal.returns-in-Some
 returns-in-Some c = carried c.args.heap.now.value c.args.event c.in-Some.answer c.in-Some.field-0-1 c.carry.new.heap.value _ _
     c.in-Some.ensures.asked c.end.ensures
 
-pub end-requires-in-Some : goal.end-requires-in-Some
-end-requires-in-Some c = bare (kind_asked (ask_of c.args.event)) c.in-Some.answer c.requires.bare c.in-Some.ensures.kind
+pub end-requires : goal.end-requires
+end-requires c = bare (kind_asked (ask_of c.args.event)) c.in-Some.answer c.requires.bare c.in-Some.ensures.kind

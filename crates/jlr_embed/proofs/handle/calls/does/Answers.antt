@@ -17,5 +17,5 @@ returns c =
       | in-None w ↦ silent old event new c.match-ask.told w.in-None.ensures.asked.0 w.in-None.ensures.asked.1 w.told-is
     ]
 
-pub end-requires : goal.end-requires
-end-requires c = bare (kind_asked (Some c.args.asked)) c.in-Some.answer c.requires.bare c.in-Some.ensures.kind
+pub end-told-requires : goal.end-told-requires
+end-told-requires c = bare (kind_asked (Some c.args.asked)) c.in-Some.answer c.requires.bare c.in-Some.ensures.kind
