@@ -1,2 +1,4 @@
 pub mod Seats
+pub mod Sends
+pub mod Begins
 pub mod Works

@@ -1,17 +1,17 @@
 //! A heap that several clients share: a worker for each session's seat, and the three loops beside them.
-ghost use Rattle.std.specs.Prelude.{◌≡◌, ◌⊎◌, ◌<◌, ◌+◌, ◌++◌, ◌∷◌, ℕ, true, false, [], IfOk, IfSome, length, map};
-ghost use Rattle.std.specs.Prelude.{slice_index_or};
-ghost use Rattle.std.specs.List.{sum_by};
+ghost use Rattle.std.specs.Prelude.{◌≡◌, ◌⊎◌, ◌<◌, ◌≤◌, ◌+◌, ◌-◌, ◌++◌, ◌∷◌, ℕ, true, false, [], List, IfOk, IfSome};
+ghost use Rattle.std.specs.Prelude.{MatchBool, length, map, min, slice_get, slice_index_or, take};
+ghost use Rattle.std.specs.List.{All, sum_by};
 ghost use Rattle.std.specs.Thread.{IsSend, IsSync};
 ghost use Rattle.jlr_log.specs.Seeing.{Seen, seen};
 ghost use Rattle.jlr_hall.specs.declared.step.Step.{Step};
-ghost use Rattle.jlr_server.specs.Serving.{AllWork, IsServed, IsWork, accepts_of, seat_in};
+ghost use Rattle.jlr_server.specs.Serving.{AllWork, BeginWith, IsFresh, IsServed, IsWork, Stays, accepts_of, seat_in};
 ghost use Rattle.jlr_server.specs.declared.server.ServeFault.TheVariants.{Close, NoMemory};
 
 use crate::acceptor::Acceptor;
 use crate::accepts::{Accepts, Phase};
 use crate::watch::{Heard, News, NoWatcher, Watcher};
-use crate::worked::Worked;
+use crate::worked::{Same, Worked};
 use jlr_device::{Device, Resource};
 use jlr_hall::Book;
 use jlr_hall::closing::CloseFault;
@@ -21,10 +21,10 @@ use jlr_hall::seat::Seat;
 use jlr_hall::step::{Limited, Step};
 use jlr_types::{Fault, Limits};
 use std::alloc::{AllocError, AllocFailed, Global};
-use std::marker::Model;
+use std::snapshot::Snapshot;
 use std::sync::Wait;
 use std::thread;
-use std::thread::{JoinHandle, Threads};
+use std::thread::{PromisedHandle, Threads};
 
 /// What was served.
 #[derive(Drop)]
@@ -81,51 +81,20 @@ pub struct Watched<R, W> {
     pub watcher: W,
 }
 
-/// Who sits on a seat.
-#[derive(Drop)]
-enum Post<D> {
-    /// A session, whose clients' files and sockets this device opens.
-    Session(D),
-    Marker,
-    Handler,
-    Cleaner,
-}
-
-/// A seat at which nothing was asked yet, and who is to sit there.
-#[derive(Drop)]
-struct Manned<A: Acceptor, D: Device, L: Naming + Limited> {
-    work: Worked<A, D, L>,
-    post: Post<D>,
-}
-
-impl<A: Acceptor, D: Device, L: Naming + Limited> Model for Manned<A, D, L> {
-    ghost use Rattle.std.specs.Prelude.{◌≡◌, []};
-    ghost use Rattle.jlr_log.specs.Seeing.{seen};
-    ghost use Rattle.jlr_server.specs.Serving.{Work};
-
-    ghost Value = { Work D.Res };
-
-    ghost view = { λ m. m.work };
-
-    ghost invariant = { λ m. m.work.seat ≡ seen m.work.seat.seat [] };
-}
-
 /// Serves clients by a seat while accepts are left.
 fn worker<A: Acceptor, D: Device + Drop, L: Naming + Limited, T: Wait>(
     rt: &T,
     hall: &Hall<D::Res, L>,
     acceptor: &A,
     accepts: &Accepts,
-    seat: Seat<D::Res, L>,
-    device: D,
+    work: Worked<A, D, L>,
 ) -> Worked<A, D, L>
 where
     D::Res: Drop,
-    requires fresh { seat ≡ seen seat.seat [] }
-    requires session { seat.seat < L.limits.sessions }
+    requires { work.seat.seat < L.limits.sessions }
+    ensures { Stays work result }
 {
-    let mut work = Worked::new(seat);
-    let mut device = device;
+    let mut work = work;
     for _ in rt.forever() {
         let closings = hall.closings(rt);
         let Some(client) = accepts.take(rt) else {
@@ -134,7 +103,7 @@ where
         match acceptor.accept(rt, work.next_accept(), client) {
             Ok(came) => {
                 hall.sit(rt, work.index(), client);
-                work = work.serve(rt, hall, acceptor, client, came, &mut device);
+                work = work.serve(rt, hall, acceptor, client, came);
             }
             Err(_) => {
                 if accepts.counts(rt) {
@@ -153,15 +122,14 @@ fn serve_at<A: Acceptor, D: Device + Drop, L: Naming + Limited, T: Wait>(
     hall: &Hall<D::Res, L>,
     acceptor: &A,
     accepts: &Accepts,
-    seat: Seat<D::Res, L>,
-    device: D,
+    work: Worked<A, D, L>,
 ) -> Worked<A, D, L>
 where
     D::Res: Drop,
-    requires fresh { seat ≡ seen seat.seat [] }
-    requires session { seat.seat < L.limits.sessions }
+    requires { work.seat.seat < L.limits.sessions }
+    ensures { Stays work result }
 {
-    let work = worker(rt, hall, acceptor, accepts, seat, device);
+    let work = worker(rt, hall, acceptor, accepts, work);
     if accepts.go(rt) {
         hall.stop(rt);
         acceptor.dismiss();
@@ -194,114 +162,108 @@ fn hear<A: Acceptor, R: Drop, L: Naming + Limited, W: Watcher, T: Wait>(
     Heard { watcher, asked }
 }
 
-/// What a thread does on its seat, until the hall is to end.
+/// What a thread does on its seat, until the hall is to end: sessions, or one of the loops.
 fn sit<A: Acceptor, D: Device + Drop, L: Naming + Limited, T: Wait>(
     rt: &T,
     hall: &Hall<D::Res, L>,
     acceptor: &A,
     accepts: &Accepts,
-    manned: Manned<A, D, L>,
+    work: Worked<A, D, L>,
 ) -> Worked<A, D, L>
 where
     D::Res: Drop,
+    requires { IsFresh work }
+    ensures { Stays work result }
 {
-    let Manned { work, post } = manned;
-    let (seat, ..) = work.into_parts();
-    let index = seat.index();
+    let index = work.index();
     let sessions = hall.sessions();
-    match post {
-        Post::Session(device) => {
-            if index < sessions {
-                return serve_at(rt, hall, acceptor, accepts, seat, device);
-            }
-            drop(device);
-        }
-        Post::Marker => {
-            if index == sessions {
-                return Worked::mark(rt, hall, seat);
-            }
-        }
-        Post::Handler => {
-            if index == sessions + 1 {
-                return Worked::hand_over(rt, hall, seat);
-            }
-        }
-        Post::Cleaner => {
-            if index == sessions + 2 {
-                return Worked::clean(rt, hall, seat);
-            }
-        }
+    if index < sessions {
+        return serve_at(rt, hall, acceptor, accepts, work);
     }
-    Worked::new(seat)
+    if index == sessions {
+        return work.mark(rt, hall);
+    }
+    if index == sessions + 1 {
+        return work.hand_over(rt, hall);
+    }
+    if index == sessions + 2 {
+        return work.clean(rt, hall);
+    }
+    work
 }
 
-/// Who sits on each seat of a hall: a session for each device, then the loops.
-///
-/// # Errors
-/// `AllocError` where there is no memory.
-fn posts<D: Drop>(alloc: Global, devices: Vec<D>) -> Result<Vec<Post<D>>, AllocError> {
-    let mut posts = Vec::new(alloc);
-    for device in devices {
-        posts.push(Post::Session(device))?;
-    }
-    posts.push(Post::Marker)?;
-    posts.push(Post::Handler)?;
-    posts.push(Post::Cleaner)?;
-    Ok(posts)
-}
-
-/// The seats with who is to sit there, the last first.
-///
-/// # Errors
-/// `AllocError` where there is no memory.
-fn with_posts<A: Acceptor, D: Device + Drop, L: Naming + Limited>(
-    alloc: Global,
-    seats: Vec<Seat<D::Res, L>>,
-    posts: Vec<Post<D>>,
-) -> Result<Vec<Manned<A, D, L>>, AllocError>
-where
-    D::Res: Drop,
-    requires fresh { (k : ℕ) (p : Seen (Step D.Res)) → k < length seats.items
-        → slice_index_or seats.items k p ≡ seen k [] }
+/// The device of the last of so many seats, of which the first have one each.
+fn last_device<D>(seats: usize, devices: &mut Vec<D>) -> Option<D>
+    requires { length devices.old.items ≤ seats }
+    ensures device { result ≡ slice_get devices.old.items (seats - 1) }
+    ensures left { devices.new.items ≡ take (seats - 1) devices.old.items }
 {
-    let mut seats = seats;
-    let mut posts = posts;
-    let Ok(mut manned) = Vec::with_capacity(alloc, seats.len()) else {
-        drop((seats, posts));
-        return Err(AllocError);
-    };
-    for _ in 0..seats.len() {
-        let Some(work) = next_seat::<A, D, L>(&mut seats) else {
-            break;
-        };
-        let Some(post) = posts.pop() else {
-            drop(work);
-            break;
-        };
-        if let Err(refused) = manned.push(Manned { work, post }) {
-            drop(refused);
-        }
+    if devices.len() < seats {
+        return None;
     }
-    drop((seats, posts));
-    Ok(manned)
+    devices.pop()
 }
 
-/// The last of these seats, if there is one. It asked nothing yet, as those that are left.
-fn next_seat<A: Acceptor, D: Device, L: Naming + Limited>(
+/// The last of these seats, if there is one, with its device. It asked nothing yet, as those that are left.
+fn last_work<A: Acceptor, D: Device + Drop, L: Naming + Limited>(
     seats: &mut Vec<Seat<D::Res, L>>,
+    devices: &mut Vec<D>,
 ) -> Option<Worked<A, D, L>>
 where
     D::Res: Drop,
     requires fresh { (k : ℕ) (p : Seen (Step D.Res)) → k < length seats.old.items
         → slice_index_or seats.old.items k p ≡ seen k [] }
+    requires devices { length devices.old.items ≡ min (length seats.old.items) L.limits.sessions }
     ensures fresh { (k : ℕ) (p : Seen (Step D.Res)) → k < length seats.new.items
         → slice_index_or seats.new.items k p ≡ seen k [] }
-    ensures one { IfSome result (λ work. work.seat ≡ seen work.seat.seat []) }
+    ensures left { devices.new.items ≡ take (length seats.new.items) devices.old.items }
+    ensures seat { IfSome result (λ work. (length seats.old.items ≡ length seats.new.items + 1)
+        × (work.seat ≡ seen (length seats.new.items) [])) }
+    ensures device { IfSome result (λ work. work.first ≡ slice_get devices.old.items (length seats.new.items)) }
 {
+    let device = last_device(seats.len(), devices);
     match seats.pop() {
-        Some(seat) => Some(Worked::new(seat)),
-        None => None,
+        Some(seat) => Some(Worked::new(seat, device)),
+        None => {
+            drop(device);
+            None
+        }
     }
+}
+
+/// The seats, the last first, at which nothing was done yet: those of sessions, each with the device of its number, and
+/// those of the loops.
+///
+/// # Errors
+/// `AllocError` where there is no memory.
+fn begun<A: Acceptor, D: Device + Drop, L: Naming + Limited>(
+    alloc: Global,
+    seats: Vec<Seat<D::Res, L>>,
+    devices: Vec<D>,
+) -> Result<Vec<Worked<A, D, L>>, AllocError>
+where
+    D::Res: Drop,
+    requires fresh { (k : ℕ) (p : Seen (Step D.Res)) → k < length seats.items
+        → slice_index_or seats.items k p ≡ seen k [] }
+    requires seats { length seats.items ≡ L.limits.sessions + 3 }
+    requires devices { length devices.items ≡ L.limits.sessions }
+    ensures fresh { IfOk result (λ works. All IsFresh works.items) }
+    ensures begun { IfOk result (λ works. BeginWith devices.items works.items) }
+{
+    let mut seats = seats;
+    let mut devices = devices;
+    let Ok(mut works) = Vec::with_capacity(alloc, seats.len()) else {
+        drop((seats, devices));
+        return Err(AllocError);
+    };
+    for _ in 0..seats.len() {
+        let Some(work) = last_work::<A, D, L>(&mut seats, &mut devices) else {
+            break;
+        };
+        let _ = is_added(&mut works, work);
+    }
+    drop((seats, devices));
+    Ok(works)
 }
 
 /// A thread on each seat, until all are done; meanwhile this one hears the watcher. No client is accepted before all
@@ -322,32 +284,45 @@ fn run_threads<
     hall: &Hall<D::Res, L>,
     acceptor: &A,
     accepts: &Accepts,
-    manned: Vec<Manned<A, D, L>>,
+    works: Vec<Worked<A, D, L>>,
     watcher: W,
 ) -> Result<(Vec<Worked<A, D, L>>, Heard<W>), ServeFault>
 where
     A::In: Send,
     A::Out: Send,
     D::Res: Drop + Send,
+    requires { All IsFresh works.items }
+    ensures { (devices : List D) → BeginWith devices works.items
+        → IfOk result (λ done. BeginWith devices done.0.items) }
 {
     thread::scope(
         thread::scope_env(),
         rt,
         move |scope| -> Result<(Vec<Worked<A, D, L>>, Heard<W>), ServeFault>
-            requires { IsSync T.row × IsSend L.row × IsSync L.row × IsSync A.row × IsSend D.row × IsSend A.In.row
-                × IsSend A.Out.row × IsSend D.Res.row }
+            requires rows { IsSync T.row × IsSend L.row × IsSync L.row × IsSync A.row × IsSend D.row
+                × IsSend A.In.row × IsSend A.Out.row × IsSend D.Res.row }
+            requires fresh { All IsFresh works.items }
+            ensures { (devices : List D) → BeginWith devices works.items
+                → IfOk result (λ done. BeginWith devices done.0.items) }
         {
-            let Ok(back) = Vec::with_capacity(alloc, manned.len()) else {
-                drop((manned, watcher));
+            let Ok(back) = Vec::with_capacity(alloc, works.len()) else {
+                drop((works, watcher));
                 return Err(ServeFault::NoMemory);
             };
-            let Ok(mut running) = Vec::with_capacity(alloc, manned.len()) else {
-                drop((manned, back, watcher));
+            let Ok(mut running) = Vec::with_capacity(alloc, works.len()) else {
+                drop((works, back, watcher));
                 return Err(ServeFault::NoMemory);
             };
             let mut all = true;
-            for seat in manned {
-                match scope.spawn(move || sit(rt, hall, acceptor, accepts, seat)) {
+            for work in works {
+                let same = Same {
+                    work: Snapshot::of(&work),
+                };
+                let sits = move || -> Worked<A, D, L>
+                    requires { IsFresh work }
+                    ensures { Stays work result }
+                { sit(rt, hall, acceptor, accepts, work) };
+                match scope.spawn_with(same, sits) {
                     Ok(thread) => all = is_added(&mut running, thread) && all,
                     Err(refused) => {
                         drop(refused);
@@ -363,7 +338,9 @@ where
 }
 
 /// Puts an item into a list. Whether there was room for it.
-fn is_added<I: Drop>(list: &mut Vec<I>, item: I) -> bool {
+fn is_added<I: Drop>(list: &mut Vec<I>, item: I) -> bool
+    ensures { MatchBool result (list.new.items ≡ list.old.items ++ item ∷ []) (list.new.items ≡ list.old.items) }
+{
     match list.push(item) {
         Ok(()) => true,
         Err(refused) => {
@@ -402,7 +379,7 @@ fn joined<
     T: Threads + Wait,
 >(
     rt: &T,
-    running: Vec<JoinHandle<Worked<A, D, L>>>,
+    running: Vec<PromisedHandle<Worked<A, D, L>, Same<A, D, L>>>,
     back: Vec<Worked<A, D, L>>,
     heard: Heard<W>,
     all: bool,
@@ -410,6 +387,9 @@ fn joined<
 where
     A::In: Send,
     D::Res: Drop + Send,
+    requires { back.items ≡ [] }
+    ensures { (devices : List D) → BeginWith devices (map (λ thread. thread.promise.work.value) running.items)
+        → IfOk result (λ done. BeginWith devices done.0.items) }
 {
     let mut back = back;
     let mut all = all;
@@ -454,7 +434,8 @@ where
     requires limits { limits ≡ L.limits }
     ensures served { IfOk result (λ served. IsServed limits
         (record { count = D.count; opens = D.may_open; connects = D.may_connect; failures = D.Res.handling.count })
-        D.Res.handling A.giving A.In.remaining A.Out.contents total false served.accepts served.missed served.book) }
+        D.may_attend D.Res.handling A.giving A.In.remaining A.Out.contents devices.items total false served.accepts
+        served.missed served.book) }
 {
     let done = serve_watched::<A, D, L, NoWatcher, T>(
         rt, alloc, limits, total, acceptor, NoWatcher, devices, blank,
@@ -496,30 +477,23 @@ where
     requires limits { limits ≡ L.limits }
     ensures served { IfOk result (λ watched. IsServed limits
         (record { count = D.count; opens = D.may_open; connects = D.may_connect; failures = D.Res.handling.count })
-        D.Res.handling A.giving A.In.remaining A.Out.contents total (W.asked watched.watcher) watched.served.accepts
-        watched.served.missed watched.served.book) }
+        D.may_attend D.Res.handling A.giving A.In.remaining A.Out.contents devices.items total (W.asked watched.watcher)
+        watched.served.accepts watched.served.missed watched.served.book) }
 {
-    let posts = match posts(alloc, devices) {
-        Ok(posts) => posts,
-        Err(_) => {
-            drop(watcher);
-            return Err(ServeFault::NoMemory);
-        }
-    };
     let Ok((hall, seats)) = Hall::<D::Res, L>::open(alloc, limits, blank) else {
-        drop((posts, watcher));
+        drop((devices, watcher));
         return Err(ServeFault::NoMemory);
     };
-    let Ok(manned) = with_posts(alloc, seats, posts) else {
+    let Ok(works) = begun::<A, D, L>(alloc, seats, devices) else {
         drop((hall, watcher));
         return Err(ServeFault::NoMemory);
     };
-    let Ok(room) = Vec::with_capacity(alloc, manned.len()) else {
-        drop((hall, manned, watcher));
+    let Ok(room) = Vec::with_capacity(alloc, works.len()) else {
+        drop((hall, works, watcher));
         return Err(ServeFault::NoMemory);
     };
     let accepts = Accepts::new(total, limits.sessions);
-    match run_threads(rt, alloc, &hall, acceptor, &accepts, manned, watcher) {
+    match run_threads(rt, alloc, &hall, acceptor, &accepts, works, watcher) {
         Ok((works, heard)) => close(room, hall, works, heard, accepts.made(), total),
         Err(fault) => {
             drop((hall, accepts, room));
@@ -544,10 +518,10 @@ fn close<A: Acceptor, D: Device + Drop, L: Naming + Limited, W: Watcher + Drop>(
 where
     D::Res: Drop,
     requires { room.items ≡ [] }
-    ensures served { IfOk result (λ watched. IsServed L.limits
+    ensures served { IfOk result (λ watched. (devices : List D) → BeginWith devices works.items → IsServed L.limits
         (record { count = D.count; opens = D.may_open; connects = D.may_connect; failures = D.Res.handling.count })
-        D.Res.handling A.giving A.In.remaining A.Out.contents total (W.asked watched.watcher) watched.served.accepts
-        watched.served.missed watched.served.book) }
+        D.may_attend D.Res.handling A.giving A.In.remaining A.Out.contents devices total (W.asked watched.watcher)
+        watched.served.accepts watched.served.missed watched.served.book) }
 {
     let Heard { watcher, asked } = heard;
     let count = hall.sessions() + 3;
@@ -617,7 +591,7 @@ where
       opens = D.may_open;
       connects = D.may_connect;
       failures = D.Res.handling.count;
-    }) D.Res.handling A.giving A.In.remaining A.Out.contents work }
+    }) D.may_attend D.Res.handling A.giving A.In.remaining A.Out.contents work }
 {
     let (seat, sessions, missed) = work.into_parts();
     tally.seats.push(seat)?;
@@ -646,7 +620,7 @@ where
           opens = D.may_open;
           connects = D.may_connect;
           failures = D.Res.handling.count;
-        }) D.Res.handling A.giving A.In.remaining A.Out.contents works.items) }
+        }) D.may_attend D.Res.handling A.giving A.In.remaining A.Out.contents works.items) }
 {
     let mut tally = Tally {
         seats: room,

@@ -1,5 +1,5 @@
 //! What is done at the seats of a hall: sessions one after the other, or a loop.
-ghost use Rattle.std.specs.Prelude.{◌≡◌, ◌≤◌, ◌<◌, ◌+◌, ℕ, List, [], length};
+ghost use Rattle.std.specs.Prelude.{◌≡◌, ◌≤◌, ◌<◌, ◌+◌, ℕ, List, [], IsSome, length};
 ghost use Rattle.std.specs.Io.KnownBytes.{Appends, Consumes};
 ghost use Rattle.jlr_types.specs.declared.Fault.{Fault};
 ghost use Rattle.jlr_session.specs.Limits.{FindsEnd, most_bytes};
@@ -7,7 +7,7 @@ ghost use Rattle.jlr_session.specs.Serving.{Serves};
 ghost use Rattle.jlr_session.specs.declared.shell.SessionEnd.{SessionEnd};
 ghost use Rattle.jlr_log.specs.Seeing.{seen};
 ghost use Rattle.jlr_hall.specs.Ports.{by_seat};
-ghost use Rattle.jlr_server.specs.Serving.{IsWork, accepts_of, next_of};
+ghost use Rattle.jlr_server.specs.Serving.{IsFresh, IsWork, Stays, accepts_of, next_of};
 
 use crate::acceptor::{AcceptId, Acceptor, ClientVigil};
 use jlr_device::{Device, Resource};
@@ -21,7 +21,9 @@ use jlr_hall::vigil::Vigil;
 use jlr_session::serve::serve;
 use std::io::{Read, Write};
 use std::marker::{Model, PhantomData};
+use std::snapshot::Snapshot;
 use std::sync::Wait;
+use std::thread::Promise;
 
 /// A session over a seat: the client's lines are carried out in the name of the seat's mutator, each ask a step of the
 /// one history. The device opens the client's files and sockets.
@@ -55,21 +57,30 @@ where
 }
 
 /// A seat, and what was done there since its hall was opened: how many sessions were served, one after the other, and
-/// how many accepts gave no client. At a seat of a loop it is what that loop did.
+/// how many accepts gave no client. At a seat of a loop it is what that loop did. A seat of sessions has the device
+/// that opens their files and sockets; contracts also see that with which it began.
 #[derive(Drop)]
 pub struct Worked<A: Acceptor, D: Device, L: Naming + Limited> {
     seat: Seat<D::Res, L>,
+    first: Snapshot<Option<D>>,
+    device: Option<D>,
     sessions: u32,
     missed: u32,
-    of: PhantomData<(A::In, D)>,
+    of: PhantomData<A::In>,
 }
 
 impl<A: Acceptor, D: Device, L: Naming + Limited> Model for Worked<A, D, L> {
     ghost use Rattle.jlr_server.specs.Serving.{IsWork, Work};
 
-    ghost Value = { Work D.Res };
+    ghost Value = { Work D D.Res };
 
-    ghost view = { λ w. record { seat = w.seat; sessions = w.sessions; missed = w.missed } };
+    ghost view = { λ w. record {
+      seat = w.seat;
+      first = w.first.value;
+      last = w.device;
+      sessions = w.sessions;
+      missed = w.missed;
+    } };
 
     ghost invariant = { λ w. IsWork L.limits (record {
       count = D.count;
@@ -77,21 +88,43 @@ impl<A: Acceptor, D: Device, L: Naming + Limited> Model for Worked<A, D, L> {
       connects = D.may_connect;
       failures = D.Res.handling.count;
     })
-        D.Res.handling A.giving A.In.remaining A.Out.contents
-        (record { seat = w.seat; sessions = w.sessions; missed = w.missed }) };
+        D.may_attend D.Res.handling A.giving A.In.remaining A.Out.contents
+        (record {
+          seat = w.seat;
+          first = w.first.value;
+          last = w.device;
+          sessions = w.sessions;
+          missed = w.missed;
+        }) };
 }
 
-impl<A: Acceptor, D: Device, L: Naming + Limited> Worked<A, D, L>
+/// That a seat stays the one that it is, and that it began with this device.
+#[derive(Drop)]
+pub(crate) struct Same<A: Acceptor, D: Device, L: Naming + Limited> {
+    pub(crate) work: Snapshot<Worked<A, D, L>>,
+}
+
+impl<A: Acceptor, D: Device, L: Naming + Limited> Promise<Worked<A, D, L>> for Same<A, D, L> {
+    ghost use Rattle.jlr_server.specs.Serving.{Stays};
+
+    ghost kept_by = { λ promise work. Stays promise.work.value work };
+}
+
+impl<A: Acceptor, D: Device + Drop, L: Naming + Limited> Worked<A, D, L>
 where
     D::Res: Drop,
 {
-    /// A seat at which nothing was done.
-    pub(crate) fn new(seat: Seat<D::Res, L>) -> Self
-        requires { seat ≡ seen seat.seat [] }
-        ensures { result ≡ record { seat = seat; sessions = 0; missed = 0 } }
+    /// A seat at which nothing was done. One of sessions has a device.
+    pub(crate) fn new(seat: Seat<D::Res, L>, device: Option<D>) -> Self
+        requires fresh { seat ≡ seen seat.seat [] }
+        requires device { seat.seat < L.limits.sessions → IsSome device }
+        ensures { result ≡ record { seat = seat; first = device; last = device; sessions = 0; missed = 0 } }
     {
+        let first = Snapshot::of(&device);
         Worked {
             seat,
+            first,
+            device,
             sessions: 0,
             missed: 0,
             of: PhantomData,
@@ -108,7 +141,7 @@ where
         }
     }
 
-    /// A session more, with the client that came, for whom the device is used meanwhile, and who then leaves. A seat at
+    /// A session more, with the client that came, whom the device attends meanwhile, and who then leaves. A seat at
     /// which 2^32 - 1 were served serves none.
     pub(crate) fn serve<T: Wait>(
         self,
@@ -117,40 +150,41 @@ where
         acceptor: &A,
         client: u32,
         came: (A::In, A::Out),
-        device: &mut D,
     ) -> Self
         requires seat { self.seat.seat < L.limits.sessions }
         requires came { A.giving.gives acceptor.now (next_of self) came.0 came.1 }
-        ensures { result.seat.seat ≡ self.seat.seat }
+        ensures { Stays self result }
     {
         let id = self.next_accept();
+        let (mut input, mut output) = came;
+        if self.sessions == u32::MAX {
+            acceptor.leave(rt, id, client, input, output);
+            return self;
+        }
         let Worked {
             seat,
+            first,
+            device,
             sessions,
             missed,
             of,
         } = self;
-        let (mut input, mut output) = came;
-        if sessions == u32::MAX {
-            acceptor.leave(rt, id, client, input, output);
-            return Worked {
-                seat,
-                sessions,
-                missed,
-                of,
-            };
-        }
+        let Some(mut device) = device else {
+            unreachable!();
+        };
         let vigil = ClientVigil {
             rt,
             acceptor,
             client,
         };
         device.attend(acceptor.descriptor(&input));
-        let seat = serve_seat(rt, hall, vigil, seat, &mut input, &mut output, device);
+        let seat = serve_seat(rt, hall, vigil, seat, &mut input, &mut output, &mut device);
         device.attend(None);
         acceptor.leave(rt, id, client, input, output);
         Worked {
             seat,
+            first,
+            device: Some(device),
             sessions: sessions + 1,
             missed,
             of,
@@ -162,24 +196,23 @@ where
     pub(crate) fn miss(self) -> Self
         requires seat { self.seat.seat < L.limits.sessions }
         requires fails { (acceptor : A) × (fault : Fault) × A.giving.fails acceptor (next_of self) fault }
-        ensures { result.seat.seat ≡ self.seat.seat }
+        ensures { Stays self result }
     {
+        if self.missed == u32::MAX {
+            return self;
+        }
         let Worked {
             seat,
+            first,
+            device,
             sessions,
             missed,
             of,
         } = self;
-        if missed == u32::MAX {
-            return Worked {
-                seat,
-                sessions,
-                missed,
-                of,
-            };
-        }
         Worked {
             seat,
+            first,
+            device,
             sessions,
             missed: missed + 1,
             of,
@@ -187,39 +220,72 @@ where
     }
 
     /// What the marker's loop does, by pieces of the budget of the limits, until the hall is to end.
-    pub(crate) fn mark<T: Wait>(rt: &T, hall: &Hall<D::Res, L>, seat: Seat<D::Res, L>) -> Self
-        requires { seat ≡ seen L.limits.sessions [] }
+    pub(crate) fn mark<T: Wait>(self, rt: &T, hall: &Hall<D::Res, L>) -> Self
+        requires fresh { IsFresh self }
+        requires seat { self.seat.seat ≡ L.limits.sessions }
+        ensures { Stays self result }
     {
+        let Worked {
+            seat,
+            first,
+            device,
+            of,
+            ..
+        } = self;
         let budget = hall.budget(rt);
         Worked {
             seat: marker_loop(seat, rt, hall, budget),
+            first,
+            device,
             sessions: 0,
             missed: 0,
-            of: PhantomData,
+            of,
         }
     }
 
     /// What the handler's loop does, until the hall is to end.
-    pub(crate) fn hand_over<T: Wait>(rt: &T, hall: &Hall<D::Res, L>, seat: Seat<D::Res, L>) -> Self
-        requires { seat ≡ seen (L.limits.sessions + 1) [] }
+    pub(crate) fn hand_over<T: Wait>(self, rt: &T, hall: &Hall<D::Res, L>) -> Self
+        requires fresh { IsFresh self }
+        requires seat { self.seat.seat ≡ L.limits.sessions + 1 }
+        ensures { Stays self result }
     {
+        let Worked {
+            seat,
+            first,
+            device,
+            of,
+            ..
+        } = self;
         Worked {
             seat: handler_loop(seat, rt, hall),
+            first,
+            device,
             sessions: 0,
             missed: 0,
-            of: PhantomData,
+            of,
         }
     }
 
     /// What the cleaner's loop does, until the hall is to end.
-    pub(crate) fn clean<T: Wait>(rt: &T, hall: &Hall<D::Res, L>, seat: Seat<D::Res, L>) -> Self
-        requires { seat ≡ seen (L.limits.sessions + 2) [] }
+    pub(crate) fn clean<T: Wait>(self, rt: &T, hall: &Hall<D::Res, L>) -> Self
+        requires fresh { IsFresh self }
+        requires seat { self.seat.seat ≡ L.limits.sessions + 2 }
+        ensures { Stays self result }
     {
+        let Worked {
+            seat,
+            first,
+            device,
+            of,
+            ..
+        } = self;
         Worked {
             seat: cleaner_loop(seat, rt, hall),
+            first,
+            device,
             sessions: 0,
             missed: 0,
-            of: PhantomData,
+            of,
         }
     }
 
@@ -230,7 +296,7 @@ where
         self.seat.index()
     }
 
-    /// The seat, how many sessions were served there, and how many accepts gave none.
+    /// The seat, how many sessions were served there, and how many accepts gave none. The device is let go.
     pub(crate) fn into_parts(self) -> (Seat<D::Res, L>, u32, u32)
         ensures parts { (result.0 ≡ self.seat) × (result.1 ≡ self.sessions) × (result.2 ≡ self.missed) }
         ensures done { IsWork L.limits (record {
@@ -238,14 +304,16 @@ where
           opens = D.may_open;
           connects = D.may_connect;
           failures = D.Res.handling.count;
-        }) D.Res.handling A.giving A.In.remaining A.Out.contents self }
+        }) D.may_attend D.Res.handling A.giving A.In.remaining A.Out.contents self }
     {
         let Worked {
             seat,
+            device,
             sessions,
             missed,
             ..
         } = self;
+        drop(device);
         (seat, sessions, missed)
     }
 }

@@ -9,9 +9,10 @@ pub returns-in-Ok-close : goal.returns-in-Ok-close
 returns-in-Ok-close g c =
     let told = c.in-Ok.ensures in
     record {
-      served = record {
+      served = λ devices began. record {
         works = c.args.works.items;
         all = told.3;
+        began = began;
         one_each = search (rules, arith);
         closes = subst (λ (seats : List (Seen (Step g.row.D-Res.Denot))). Closes g.L.Limited.limits seats c.in-Ok-close.book) told.0
             c.in-Ok-close.ensures.closes;

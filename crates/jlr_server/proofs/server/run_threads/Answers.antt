@@ -6,6 +6,6 @@ pub scoped-requires : goal.scoped-requires
 scoped-requires g c = record {
   at = λ x. (
     (search rules, search rules, search rules, search rules, search rules, search rules, search rules, search rules),
-    (search rules, search rules, search rules, search rules, search rules, search rules, search rules, search rules),
+    (search rules, (search rules, search rules, search rules, search rules, search rules, search rules, search rules, search rules)),
   );
 }

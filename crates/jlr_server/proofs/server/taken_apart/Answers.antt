@@ -17,7 +17,7 @@ loop-work-preserved g c =
       seats = e.seats ∙ ap (λ l. l ++ w.seat ∷ []) i.seats ∙ sym (map-append seat_in c.loop-work.yielded (w ∷ []));
       accepts = omega (arith, e.accepts, i.accepts, sum_more accepts_of c.loop-work.yielded w);
       missed = omega (arith, e.missed, i.missed, sum_more (λ w. w.missed) c.loop-work.yielded w);
-      done = all_more _ _ _ _ _ _ c.loop-work.yielded w i.done e.done;
+      done = all_more _ _ _ _ _ _ _ c.loop-work.yielded w i.done e.done;
     }
 
 pub returns : goal.returns
@@ -39,6 +39,6 @@ returns g c =
       i.seats ∙ ap (map seat_in) all,
       i.accepts ∙ ap (sum_by accepts_of) all,
       i.missed ∙ ap (sum_by (λ w. w.missed)) all,
-      subst (λ (works : List (Work g.row.D-Res.Denot)). AllWork g.L.Limited.limits device g.D.Res.Resource.handling g.A.Acceptor.giving
-          g.A.In.Read.remaining g.A.Out.Write.contents works) all i.done,
+      subst (λ (works : List (Work g.row.D.Denot g.row.D-Res.Denot)). AllWork g.L.Limited.limits device g.D.Device.may_attend
+          g.D.Res.Resource.handling g.A.Acceptor.giving g.A.In.Read.remaining g.A.Out.Write.contents works) all i.done,
     )

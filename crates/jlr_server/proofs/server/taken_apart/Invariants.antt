@@ -13,6 +13,6 @@ invariant-loop-work g l = record {
     opens = g.D.Device.may_open;
     connects = g.D.Device.may_connect;
     failures = g.D.Res.Resource.handling.count;
-  }) g.D.Res.Resource.handling g.A.Acceptor.giving g.A.In.Read.remaining
+  }) g.D.Device.may_attend g.D.Res.Resource.handling g.A.Acceptor.giving g.A.In.Read.remaining
       g.A.Out.Write.contents l.yielded;
 }
