@@ -3,7 +3,7 @@ use Rattle.std.proofs.Common.{◌≡◌, ℕ, Bool, true, false, Option, Some, N
 use Rattle.jlr_machine.specs.declared.ask.Answer.{Answer}
 use Rattle.jlr_machine.specs.declared.ask.Answer.TheVariants.{Data, Faults, Names, Notes}
 use Rattle.jlr_event.specs.declared.event.Event.{Event}
-use Rattle.jlr_embed.specs.Kinds.{tells_done, is_faulted, is_told, is_wrote}
+use Rattle.jlr_embed.specs.Kinds.{is_faulted, is_prepared, is_told, is_wrote, tells_done}
 use Rattle.jlr_embed.specs.Calls.{Carries, HeapOfTokens, status_closed}
 use Rattle.jlr_embed.specs.OneEvent.{AskedOnce, Carried}
 use Rattle.jlr_embed.specs.Tells.{IsBare, TellsEnd, holds_memory}
@@ -36,6 +36,13 @@ told_end (Notes notes) told = sym told
 told_end (Faults faults) told = sym told
 told_end a told = refl
 
+told_prepared : (a : Answer) → is_told is_prepared a ≡ true → holds_memory a ≡ false
+told_prepared (Data bytes) told = sym told
+told_prepared (Names names) told = sym told
+told_prepared (Notes notes) told = sym told
+told_prepared (Faults faults) told = sym told
+told_prepared a told = refl
+
 told_fault : (a : Answer) → is_told is_faulted a ≡ true → holds_memory a ≡ false
 told_fault (Data bytes) told = sym told
 told_fault (Names names) told = sym told
@@ -52,5 +59,6 @@ told_wrote a told = refl
 
 pub bare : (kind : Answer → Bool) (a : Answer) → IsBare kind → is_told kind a ≡ true → holds_memory a ≡ false
 bare kind a (inl ends) told = told_end a (subst (λ (k : Answer → Bool). is_told k a ≡ true) ends told)
-bare kind a (inr (inl faulted)) told = told_fault a (subst (λ (k : Answer → Bool). is_told k a ≡ true) faulted told)
-bare kind a (inr (inr wrote)) told = told_wrote a (subst (λ (k : Answer → Bool). is_told k a ≡ true) wrote told)
+bare kind a (inr (inl made)) told = told_prepared a (subst (λ (k : Answer → Bool). is_told k a ≡ true) made told)
+bare kind a (inr (inr (inl faulted))) told = told_fault a (subst (λ (k : Answer → Bool). is_told k a ≡ true) faulted told)
+bare kind a (inr (inr (inr wrote))) told = told_wrote a (subst (λ (k : Answer → Bool). is_told k a ≡ true) wrote told)

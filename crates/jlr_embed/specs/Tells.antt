@@ -16,7 +16,7 @@ use Rattle.jlr_machine.specs.declared.ask.Handed.TheVariants.{Queued, Lined, Ski
 use Rattle.jlr_machine.specs.declared.ask.Answer.{Answer}
 use Rattle.jlr_machine.specs.declared.ask.Answer.TheVariants.{AlreadyDone, Data, Handle, Handed, Int, Job, Names, Notes}
 use Rattle.jlr_machine.specs.declared.ask.Answer.TheVariants.{Faults, Out, Refused, Stat, Truth}
-use Rattle.jlr_embed.specs.Kinds.{tells_done, is_faulted, is_wrote}
+use Rattle.jlr_embed.specs.Kinds.{is_faulted, is_prepared, is_wrote, tells_done}
 use Rattle.jlr_embed.specs.declared.handle.out.Counts.{Counts}
 use Rattle.jlr_embed.specs.declared.handle.out.Failed.{Failed}
 use Rattle.jlr_embed.specs.declared.handle.out.Taken.{Taken}
@@ -32,7 +32,7 @@ holds_memory _ = false
 
 -- of these kinds is the answer of a call that tells nothing but how it ended; none of them holds memory
 abbrev pub IsBare : (Answer → Bool) → Type 0
-IsBare kind = (kind ≡ tells_done) ⊎ (kind ≡ is_faulted) ⊎ (kind ≡ is_wrote)
+IsBare kind = (kind ≡ tells_done) ⊎ (kind ≡ is_prepared) ⊎ (kind ≡ is_faulted) ⊎ (kind ≡ is_wrote)
 
 -- nothing but how it ended
 abbrev pub TellsEnd : ℕ → Answer → Type 0

@@ -7,7 +7,7 @@ use Rattle.std.proofs.lemmas.List.{map-append}
 use Rattle.std.proofs.lemmas.List.Elements.{All-head, All-push, All-tail}
 use Rattle.jlr_log.specs.Seeing.{Seen, seen}
 use Rattle.jlr_hall.specs.declared.step.Step.{Step}
-use Rattle.jlr_server.specs.Serving.{BeginWith, IsFresh, Stays, Work}
+use Rattle.jlr_server.specs.Serving.{BeginWith, IsUnasked, Stays, Work}
 
 -- what holds of each of a list, and of an item that is added to it or not
 pub all_added : {X : Type 0} (P : X → Type 0) (old new : List X) (x : X) (added : Bool)
@@ -34,7 +34,7 @@ abbrev pub AllFresh : {R : Type 0} → List (Seen (Step R)) → Type 0
 AllFresh {R} seats = (k : ℕ) (p : Seen (Step R)) → k < length seats → slice_index_or seats k p ≡ seen k []
 
 module _ {D R : Type 0} where
-  pub is_fresh : (w : Work D R) (n : ℕ) → w.seat ≡ seen n [] → IsFresh w
+  pub is_fresh : (w : Work D R) (n : ℕ) → w.seat ≡ seen n [] → IsUnasked w
   is_fresh w n is = is ∙ ap (λ (k : ℕ). seen k []) (sym (ap (λ (p : Seen (Step R)). p.seat) is))
 
   pub begins : (devices : List D) (w : Work D R) (n m : ℕ) → m ≡ n + 1 → w.seat ≡ seen n [] → w.first ≡ slice_get (take m devices) n

@@ -53,8 +53,8 @@ module _ {D R : Type 0} where
   next_of w = accept_at w.seat (accepts_of w)
 
   -- nothing was asked at the seat yet
-  abbrev pub IsFresh : Work D R → Type 0
-  IsFresh w = w.seat ≡ seen w.seat.seat []
+  abbrev pub IsUnasked : Work D R → Type 0
+  IsUnasked w = w.seat ≡ seen w.seat.seat []
 
   -- it is the same seat, and began with the same device
   abbrev pub Stays : Work D R → Work D R → Type 0

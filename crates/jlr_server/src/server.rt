@@ -5,7 +5,7 @@ ghost use Rattle.std.specs.List.{All, sum_by};
 ghost use Rattle.std.specs.Thread.{IsSend, IsSync};
 ghost use Rattle.jlr_log.specs.Seeing.{Seen, seen};
 ghost use Rattle.jlr_hall.specs.declared.step.Step.{Step};
-ghost use Rattle.jlr_server.specs.Serving.{AllWork, BeginWith, IsFresh, IsServed, IsWork, Stays, accepts_of, seat_in};
+ghost use Rattle.jlr_server.specs.Serving.{AllWork, BeginWith, IsUnasked, IsServed, IsWork, Stays, accepts_of, seat_in};
 ghost use Rattle.jlr_server.specs.declared.server.ServeFault.TheVariants.{Close, NoMemory};
 
 use crate::acceptor::Acceptor;
@@ -172,7 +172,7 @@ fn sit<A: Acceptor, D: Device + Drop, L: Naming + Limited, T: Wait>(
 ) -> Worked<A, D, L>
 where
     D::Res: Drop,
-    requires { IsFresh work }
+    requires { IsUnasked work }
     ensures { Stays work result }
 {
     let index = work.index();
@@ -247,7 +247,7 @@ where
         → slice_index_or seats.items k p ≡ seen k [] }
     requires seats { length seats.items ≡ L.limits.sessions + 3 }
     requires devices { length devices.items ≡ L.limits.sessions }
-    ensures fresh { IfOk result (λ works. All IsFresh works.items) }
+    ensures fresh { IfOk result (λ works. All IsUnasked works.items) }
     ensures begun { IfOk result (λ works. BeginWith devices.items works.items) }
 {
     let mut seats = seats;
@@ -291,7 +291,7 @@ where
     A::In: Send,
     A::Out: Send,
     D::Res: Drop + Send,
-    requires { All IsFresh works.items }
+    requires { All IsUnasked works.items }
     ensures { (devices : List D) → BeginWith devices works.items
         → IfOk result (λ done. BeginWith devices done.0.items) }
 {
@@ -301,7 +301,7 @@ where
         move |scope| -> Result<(Vec<Worked<A, D, L>>, Heard<W>), ServeFault>
             requires rows { IsSync T.row × IsSend L.row × IsSync L.row × IsSync A.row × IsSend D.row
                 × IsSend A.In.row × IsSend A.Out.row × IsSend D.Res.row }
-            requires fresh { All IsFresh works.items }
+            requires fresh { All IsUnasked works.items }
             ensures { (devices : List D) → BeginWith devices works.items
                 → IfOk result (λ done. BeginWith devices done.0.items) }
         {
@@ -319,7 +319,7 @@ where
                     work: Snapshot::of(&work),
                 };
                 let sits = move || -> Worked<A, D, L>
-                    requires { IsFresh work }
+                    requires { IsUnasked work }
                     ensures { Stays work result }
                 { sit(rt, hall, acceptor, accepts, work) };
                 match scope.spawn_with(same, sits) {

@@ -7,7 +7,7 @@ ghost use Rattle.jlr_session.specs.Serving.{Serves};
 ghost use Rattle.jlr_session.specs.declared.shell.SessionEnd.{SessionEnd};
 ghost use Rattle.jlr_log.specs.Seeing.{seen};
 ghost use Rattle.jlr_hall.specs.Ports.{by_seat};
-ghost use Rattle.jlr_server.specs.Serving.{IsFresh, IsWork, Stays, accepts_of, next_of};
+ghost use Rattle.jlr_server.specs.Serving.{IsUnasked, IsWork, Stays, accepts_of, next_of};
 
 use crate::acceptor::{AcceptId, Acceptor, ClientVigil};
 use jlr_device::{Device, Resource};
@@ -221,7 +221,7 @@ where
 
     /// What the marker's loop does, by pieces of the budget of the limits, until the hall is to end.
     pub(crate) fn mark<T: Wait>(self, rt: &T, hall: &Hall<D::Res, L>) -> Self
-        requires fresh { IsFresh self }
+        requires fresh { IsUnasked self }
         requires seat { self.seat.seat ≡ L.limits.sessions }
         ensures { Stays self result }
     {
@@ -245,7 +245,7 @@ where
 
     /// What the handler's loop does, until the hall is to end.
     pub(crate) fn hand_over<T: Wait>(self, rt: &T, hall: &Hall<D::Res, L>) -> Self
-        requires fresh { IsFresh self }
+        requires fresh { IsUnasked self }
         requires seat { self.seat.seat ≡ L.limits.sessions + 1 }
         ensures { Stays self result }
     {
@@ -268,7 +268,7 @@ where
 
     /// What the cleaner's loop does, until the hall is to end.
     pub(crate) fn clean<T: Wait>(self, rt: &T, hall: &Hall<D::Res, L>) -> Self
-        requires fresh { IsFresh self }
+        requires fresh { IsUnasked self }
         requires seat { self.seat.seat ≡ L.limits.sessions + 2 }
         ensures { Stays self result }
     {

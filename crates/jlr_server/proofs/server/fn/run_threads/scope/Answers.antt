@@ -9,7 +9,7 @@ use Rattle.jlr_hall.proofs.seat.Seat.TheSendSync as seats
 use Rattle.jlr_server.proofs.accepts.Accepts.TheSendSync as accepts
 use Rattle.std.specs.Vec.Iter.{into_iter_items}
 use Rattle.std.proofs.lemmas.List.Elements.{All-rest}
-use Rattle.jlr_server.specs.Serving.{IsFresh}
+use Rattle.jlr_server.specs.Serving.{IsUnasked}
 use Rattle.jlr_server.proofs.Sends.{option_owned}
 use Rattle.jlr_server.proofs.Begins.{one_runs}
 use Rattle.jlr_server.proofs.server.fn.run_threads.scope.Goals as goal
@@ -69,7 +69,7 @@ spawn_with-requires-send-F g c κs within =
 
 pub loop-work-preserved-then-is_added : goal.loop-work-preserved-then-is_added
 loop-work-preserved-then-is_added g c = record {
-  fresh = All-rest IsFresh c.in-Some.work (into_iter_items c.next.new.self) (into_iter_items c.loop-work.work-iterator)
+  fresh = All-rest IsUnasked c.in-Some.work (into_iter_items c.next.new.self) (into_iter_items c.loop-work.work-iterator)
       c.in-Some.ensures.steps.0 c.loop-work.invariant.fresh;
   begun = λ devices began.
       one_runs _ devices c.in-Some.work (into_iter_items c.loop-work.work-iterator) (into_iter_items c.next.new.self)
@@ -79,7 +79,7 @@ loop-work-preserved-then-is_added g c = record {
 
 pub loop-work-preserved-else-is_added : goal.loop-work-preserved-else-is_added
 loop-work-preserved-else-is_added g c = record {
-  fresh = All-rest IsFresh c.in-Some.work (into_iter_items c.next.new.self) (into_iter_items c.loop-work.work-iterator)
+  fresh = All-rest IsUnasked c.in-Some.work (into_iter_items c.next.new.self) (into_iter_items c.loop-work.work-iterator)
       c.in-Some.ensures.steps.0 c.loop-work.invariant.fresh;
   begun = λ devices began.
       one_runs _ devices c.in-Some.work (into_iter_items c.loop-work.work-iterator) (into_iter_items c.next.new.self)
@@ -89,7 +89,7 @@ loop-work-preserved-else-is_added g c = record {
 
 pub loop-work-preserved : goal.loop-work-preserved
 loop-work-preserved g c = record {
-  fresh = All-rest IsFresh c.in-Some.work (into_iter_items c.next.new.self) (into_iter_items c.loop-work.work-iterator)
+  fresh = All-rest IsUnasked c.in-Some.work (into_iter_items c.next.new.self) (into_iter_items c.loop-work.work-iterator)
       c.in-Some.ensures.steps.0 c.loop-work.invariant.fresh;
   begun = λ devices began.
       let were = c.loop-work.invariant.begun devices began in (
