@@ -116,9 +116,9 @@ module _ (m : Machine) (ask : Option Ask) (answer : Option Answer) (chosen : Cho
     ]
     | Some asked ↦ elim answer as (λ a. EntersLegally m (Some asked) a chosen n → may_collect m (Some asked) ≡ false → chosen.collected
         ≡ None) [
-      | None ↦ λ x may. absurd x
-      | Some a ↦ λ x may. no_collection_unless_it_may m (entry_of asked a chosen) x.0 may
-    ]
+          | None ↦ λ x may. absurd x
+          | Some a ↦ λ x may. no_collection_unless_it_may m (entry_of asked a chosen) x.0 may
+        ]
   ]
 
 abbrev choice_of : Option Collected → List ℕ → Chosen
@@ -189,9 +189,9 @@ refused_stays image entries h k e reply chosen asked by s is end was ends =
     let m = ends.0 in
     let x = s.entry m ends.2 in
     let first : EntersLegally m (Some asked) (answer_in reply) chosen x.0 = subst (λ o. EntersLegally m o (answer_in reply) chosen x.0) is
-        x.1 in
+    x.1 in
     let enters : EntersLegally m (Some asked) (Some (Refused by)) chosen x.0 = subst (λ o. EntersLegally m (Some asked) o chosen x.0) was
-        first in
+    first in
     let none = end_chooses m asked (Refused by) chosen end enters.0 in
     let same : apply m (entry_of asked (Refused by) chosen) ≡ m =
     ap {A = Chosen} {B = Machine} (λ c. apply m (entry_of asked (Refused by) c)) none

@@ -115,7 +115,7 @@ module _ {R : Type 0} (m : Machine) where
       let x = s.entry a.0 a.2 in
       let entry = entry_by seat asked answer chosen in
       let enters : EntersLegally a.0 (Some asked) (Some answer) chosen x.0 = subst (λ q. EntersLegally a.0 q (Some answer) chosen x.0) is
-          x.1 in
+      x.1 in
       let legal : IsLegal a.0 entry = legality_looks_at_no_seat a.0 (entry_of asked answer chosen) seat enters.0 in
       let applied : x.0 ≡ apply a.0 entry = enters.1 in
       subst (λ q. IsAfter Q k (entries ++ option_to_list (seated seat q (Some answer) chosen))) (sym is) (
@@ -138,7 +138,7 @@ module _ {R : Type 0} (m : Machine) where
   turned_by P Q e asked is end h k entries answer resource chosen s by was leads a =
       let x = s.entry a.0 a.2 in
       let enters : EntersLegally a.0 (Some asked) (Some answer) chosen x.0 = subst (λ q. EntersLegally a.0 q (Some answer) chosen x.0) is
-          x.1 in
+      x.1 in
       let same : apply a.0 (entry_of asked answer chosen) ≡ a.0 =
       refused_leaves a.0 asked answer chosen by was (end_chooses a.0 asked answer chosen end enters.0) a.4 in
       (a.0, a.1, subst (StandsIn k) (enters.1 ∙ same) x.2, a.3, a.4, subst Q same (leads a.0 answer resource refl a.3 a.5 enters.0))
