@@ -28,7 +28,6 @@ use jlr_log::{Keeper, Log, Naming, Pass, Telling};
 use jlr_machine::ask::Ask;
 use jlr_machine::data::CopyRoom;
 use jlr_types::{Handle, Mutator, Refusal};
-use std::hint::spin_loop;
 use std::marker::{Brand, Model};
 use std::snapshot::Snapshot;
 use std::sync::{Condvar, Mutex, MutexGuard, Wait};
@@ -231,22 +230,7 @@ pub struct Hall<R, L: Naming + Limited> {
     pub ghost count: { seats ≡ L.limits.sessions + 3 },
 }
 
-/// How often the lock is tried before a thread sleeps for it. It is held for less than a microsecond, and a thread that
-/// sleeps leaves its processor idle, to which the system then moves others.
-const TRIES: u32 = 100;
-
 impl<R: Drop, L: Naming + Limited> Hall<R, L> {
-    /// Takes the lock, without sleep where it is given up soon.
-    fn take<T: Wait>(&self, rt: &T) -> MutexGuard<'_, Locked<R, L>> {
-        for _ in 0..TRIES {
-            if let Some(locked) = self.locked.try_lock() {
-                return locked;
-            }
-            spin_loop();
-        }
-        self.locked.lock(rt)
-    }
-
     /// Tells the loops and all who wait to end.
     pub fn stop<T: Wait>(&self, rt: &T) {
         self.locked.lock(rt).stopped = true;
@@ -402,7 +386,7 @@ impl<R: Drop, L: Naming + Limited> Seat<R, L> {
         ensures out { HasItsResource result }
     {
         let Removal { mutator, queue } = removal;
-        let locked = hall.take(rt);
+        let locked = hall.locked.lock(rt);
         if !locked.is_waiting(self.index, removal) {
             return self.remove_under(hall, locked, mutator, queue);
         }
@@ -469,7 +453,7 @@ impl<R: Drop, L: Naming + Limited> Seat<R, L> {
         ensures asked { Asked L.limits self.old event result self.new }
         ensures out { HasItsResource result }
     {
-        self.ask_under(hall, hall.take(rt), event, room)
+        self.ask_under(hall, hall.locked.lock(rt), event, room)
     }
 
     /// One event under the lock, which is let go. Who would find something to do is woken.
@@ -500,7 +484,8 @@ impl<R: Drop, L: Naming + Limited> Seat<R, L> {
     {
         let Seat { index, pass, .. } = self;
         let event = Event::Mark { budget };
-        hall.take(rt)
+        hall.locked
+            .lock(rt)
             .ask(&hall.log, pass, *index, event, Effect::Nothing, None)
     }
 }
