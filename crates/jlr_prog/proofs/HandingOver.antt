@@ -62,11 +62,11 @@ pub entered : {R : Type 0} (old new : Kept R) (e : Event R) (reply : Reply R) (a
     → (answer : Answer) × (answer_in reply ≡ Some answer) × Entered old new ask answer
 entered old new e (Answered answer resource) ask is stands s =
     let x = s.1.entry stands.0 stands.1 in
-    let l = subst (λ a. Rattle.jlr_book.specs.Cores.Enters stands.0 a (Some answer) s.0 x.0) is x.1 in
+    let l = subst (λ a. Rattle.jlr_book.specs.Cores.EntersLegally stands.0 a (Some answer) s.0 x.0) is x.1 in
     (answer, refl, (stands.0, x.0, s.0, stands.1, x.2, l.0, l.1))
 entered old new e (Marked progress) ask is stands s =
     let x = s.1.entry stands.0 stands.1 in
-    absurd (subst (λ a. Rattle.jlr_book.specs.Cores.Enters stands.0 a None s.0 x.0) is x.1)
+    absurd (subst (λ a. Rattle.jlr_book.specs.Cores.EntersLegally stands.0 a None s.0 x.0) is x.1)
 
 -- what an answer comes to: work, or none since it is a refusal
 abbrev pub ComesTo : Type 0 → Answer → Type 0
