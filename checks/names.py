@@ -1,6 +1,6 @@
 #!/usr/bin/env python3
-"""Holds that a name means one thing: no definition of one crate's specs has the name of another's, and no proof file of a crate that of one of its specs
-says what it does not prove. Holds too that lib.rt tells of its crate in at most 15 lines, and that no folder has more than 40 files.
+"""Holds that a name means one thing: no two modules of specs define the same name, and of the words that told nothing of a proof file, Standing and
+Counting, each is left to one crate at most. Holds too that lib.rt tells of its crate in at most 15 lines, and that no folder has more than 40 files.
 
     checks/names.py
 
