@@ -1,2 +1,2 @@
--- What the arguments of calls stand for. What calls do is said by jlr_handle.
+-- What the arguments of calls stand for. What calls do is said by jlr_embed.
 pub mod Layouts
