@@ -18,6 +18,7 @@ use crate::chairs::{Chairs, MOST_SESSIONS, Removal};
 use crate::closing::LOOPS;
 use crate::dues::Dues;
 use crate::effect::{Effect, says_queued};
+use crate::lock::take;
 use crate::seat::Seat;
 use crate::step::{Limited, Step};
 use crate::vigil::{NoVigil, Vigil};
@@ -386,7 +387,7 @@ impl<R: Drop, L: Naming + Limited> Seat<R, L> {
         ensures out { HasItsResource result }
     {
         let Removal { mutator, queue } = removal;
-        let locked = hall.locked.lock(rt);
+        let locked = take(&hall.locked, rt);
         if !locked.is_waiting(self.index, removal) {
             return self.remove_under(hall, locked, mutator, queue);
         }
@@ -453,7 +454,7 @@ impl<R: Drop, L: Naming + Limited> Seat<R, L> {
         ensures asked { Asked L.limits self.old event result self.new }
         ensures out { HasItsResource result }
     {
-        self.ask_under(hall, hall.locked.lock(rt), event, room)
+        self.ask_under(hall, take(&hall.locked, rt), event, room)
     }
 
     /// One event under the lock, which is let go. Who would find something to do is woken.
@@ -484,8 +485,6 @@ impl<R: Drop, L: Naming + Limited> Seat<R, L> {
     {
         let Seat { index, pass, .. } = self;
         let event = Event::Mark { budget };
-        hall.locked
-            .lock(rt)
-            .ask(&hall.log, pass, *index, event, Effect::Nothing, None)
+        take(&hall.locked, rt).ask(&hall.log, pass, *index, event, Effect::Nothing, None)
     }
 }

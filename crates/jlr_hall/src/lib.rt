@@ -16,6 +16,7 @@ pub mod closing;
 mod dues;
 mod effect;
 pub mod hall;
+mod lock;
 pub mod loops;
 pub mod port;
 pub mod seat;
