@@ -1,3 +1,4 @@
+pub mod CoreSteps
 pub mod Ranges
 pub mod RunLaws
 pub mod Ticks

@@ -2,5 +2,6 @@
 pub mod Events
 pub mod Cores
 pub mod Steps
+pub mod Dispatch
 pub mod Runs
 pub mod Cycles

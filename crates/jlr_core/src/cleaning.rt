@@ -21,6 +21,7 @@ ghost use Rattle.jlr_state.specs.Waiting.{AllWait, WaitAsBefore, WaitsOn};
 ghost use Rattle.jlr_state.specs.TakeUps.{clean_answer, handed_out, take_up_answered};
 ghost use Rattle.jlr_state.specs.Marks.{MarksNew};
 ghost use Rattle.jlr_state.specs.Machines.{machine_of};
+ghost use Rattle.jlr_state.specs.Rest.{LeavesRestMaking, LeavesSizes};
 
 use jlr_cells::Shape;
 use jlr_cleaner::Job;
@@ -45,11 +46,7 @@ pub(crate) fn make_cleaner<R>(
     ensures meets { Meets (machine_of state.old) (Ask.MakeCleaner by) (answer_of result) choice.new.chosen
         (machine_of state.new) }
     ensures memory { answer_of result ≡ Answer.Refused Refusal.NoMemory → ⊥ }
-    ensures room { choice.new.cells ≡ choice.old.cells }
-    ensures cells { length state.new.heap.graph.objects ≡ length state.old.heap.graph.objects }
-    ensures age { state.new.soft_age ≡ state.old.soft_age }
-    ensures cleaner { state.new.cleaner ≡ state.old.cleaner }
-    ensures clock { state.new.heap.clock ≡ after_choice choice.new.chosen state.old.heap.clock }
+    ensures rest { LeavesRestMaking state.old choice.old choice.new state.new }
     ensures marks { MarksNew (machine_of state.old) state.old.heap.marking choice.new.chosen (machine_of state.new)
         state.new.heap.marking }
 {
@@ -188,10 +185,7 @@ pub(crate) fn clean<R>(
     ensures flow { Conserves None state.old.cleaner.table (handed_out result) state.new.cleaner.table }
     ensures moves { Moves None state.old.cleaner.table (handed_out result) state.new.cleaner.table }
     ensures goes_out { GoesOut state.old.cleaner.table None (Some (clean_answer result)) (handed_out result) }
-    ensures cells { length state.new.heap.graph.objects ≡ length state.old.heap.graph.objects }
-    ensures age { state.new.soft_age ≡ state.old.soft_age }
-    ensures table_room { state.new.cleaner.table.room ≡ state.old.cleaner.table.room }
-    ensures clock { state.new.heap.clock ≡ state.old.heap.clock }
+    ensures rest { LeavesSizes state.old state.new }
     ensures waits { WaitsOn (machine_of state.new) state.old.cleaner state.new.cleaner }
     ensures marking { state.new.heap.marking ≡ state.old.heap.marking }
 {
@@ -213,10 +207,7 @@ pub(crate) fn take_up<R>(state: &mut State<R>) -> Result<Option<Job<R>>, Refusal
     ensures flow { Conserves None state.old.cleaner.table (handed_out result) state.new.cleaner.table }
     ensures moves { Moves None state.old.cleaner.table (handed_out result) state.new.cleaner.table }
     ensures goes_out { GoesOut state.old.cleaner.table None (Some (take_up_answered result)) (handed_out result) }
-    ensures cells { length state.new.heap.graph.objects ≡ length state.old.heap.graph.objects }
-    ensures age { state.new.soft_age ≡ state.old.soft_age }
-    ensures table_room { state.new.cleaner.table.room ≡ state.old.cleaner.table.room }
-    ensures clock { state.new.heap.clock ≡ state.old.heap.clock }
+    ensures rest { LeavesSizes state.old state.new }
     ensures waits { WaitsOn (machine_of state.new) state.old.cleaner state.new.cleaner }
     ensures marking { state.new.heap.marking ≡ state.old.heap.marking }
 {
@@ -249,10 +240,7 @@ pub(crate) fn finish<R>(
     ensures memory { answer_of result ≡ Answer.Refused Refusal.NoMemory → ⊥ }
     ensures values { values state.new.cleaner.table ≡ values state.old.cleaner.table }
     ensures lies { LieAsBefore state.old.cleaner.table state.new.cleaner.table }
-    ensures cells { length state.new.heap.graph.objects ≡ length state.old.heap.graph.objects }
-    ensures age { state.new.soft_age ≡ state.old.soft_age }
-    ensures table_room { state.new.cleaner.table.room ≡ state.old.cleaner.table.room }
-    ensures clock { state.new.heap.clock ≡ state.old.heap.clock }
+    ensures rest { LeavesSizes state.old state.new }
     ensures waits { WaitAsBefore state.old.cleaner state.new.cleaner }
     ensures marks { MarksNew (machine_of state.old) state.old.heap.marking no_choice (machine_of state.new)
         state.new.heap.marking }

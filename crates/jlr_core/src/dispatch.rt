@@ -1,19 +1,17 @@
 //! Which ask an event is.
-ghost use Rattle.std.specs.Prelude.{◌≡◌, ◌≤◌, ◌&&◌, length, not, true, false, None, Some};
+ghost use Rattle.std.specs.Prelude.{◌≡◌, ◌≤◌, length, true, false, None, Some};
 ghost use Rattle.jlr_machine.specs.Choices.{nothing_chosen};
 ghost use Rattle.jlr_machine.specs.Run.{no_choice};
 ghost use Rattle.jlr_machine.specs.WellFormed.{IsWellFormed};
 ghost use Rattle.jlr_state.specs.State.{answer_of};
 ghost use Rattle.jlr_state.specs.Machines.{machine_of};
 ghost use Rattle.jlr_event.specs.Asks.{hands_in};
-ghost use Rattle.jlr_event.specs.Events.{ask_of, answer_in, resource_of_event, resource_of_reply};
-ghost use Rattle.jlr_state.specs.Events.{StepsMachine, WantsMemory, carries_none};
-ghost use Rattle.jlr_state.specs.Marks.{Begins, BlackensNew, AnswersPiece, MarksReached, budget_of, has_grey};
-ghost use Rattle.jlr_state.specs.Flows.{Conserves, GoesOut, Moves};
-ghost use Rattle.jlr_core.specs.Steps.{LeavesRoom};
+ghost use Rattle.jlr_event.specs.Events.{ask_of, answer_in, resource_of_reply};
+ghost use Rattle.jlr_state.specs.Events.{StepsMachine, carries_none};
+ghost use Rattle.jlr_core.specs.Dispatch.{StepsState};
+ghost use Rattle.jlr_state.specs.Marks.{AnswersPiece, budget_of};
 ghost use Rattle.jlr_state.specs.TakeUps.{clean_answer, handed_out, take_up_answered};
-ghost use Rattle.jlr_state.specs.Policy.{KeepsByPolicy, clock_after};
-ghost use Rattle.jlr_state.specs.Waiting.{AllWait, WaitsOn};
+ghost use Rattle.jlr_state.specs.Waiting.{AllWait};
 
 use crate::{cleaning, counts, handles, names, objects, references};
 use jlr_cleaner::Job;
@@ -32,31 +30,11 @@ pub(crate) fn step<R>(state: &mut State<R>, event: Event<R>, choice: &mut Choice
     requires room { length state.old.heap.graph.objects ≤ choice.old.cells }
     ensures entry { StepsMachine (machine_of state.old) state.old.heap.marking (ask_of event) (answer_in result)
         choice.new.chosen (machine_of state.new) }
-    ensures flow { Conserves (resource_of_event event) state.old.cleaner.table (resource_of_reply result)
-        state.new.cleaner.table }
-    ensures moves { Moves (resource_of_event event) state.old.cleaner.table (resource_of_reply result)
-        state.new.cleaner.table }
-    ensures goes_out { GoesOut state.old.cleaner.table (resource_of_event event) (answer_in result)
-        (resource_of_reply result) }
-    ensures memory { WantsMemory (machine_of state.old) state.old.cleaner.table (ask_of event) (answer_in result) }
-    ensures table_room { LeavesRoom (ask_of event) state.old.cleaner.table state.new.cleaner.table }
-    ensures reached { MarksReached (machine_of state.old) state.old.heap.marking (machine_of state.new)
-        state.new.heap.marking }
-    ensures begins { Begins (ask_of event) (machine_of state.old) (machine_of state.new) state.new.heap.marking }
+    ensures rest { StepsState state.old event (answer_in result) choice.new.chosen
+        (resource_of_reply result) state.new }
     ensures marking { AnswersPiece (budget_of event) state.old.soft_age state.old.heap.clock (machine_of state.old)
         state.old.heap.marking state.old.heap.condemned result state.new.heap.marking state.new.heap.condemned }
-    ensures blackens { BlackensNew event (machine_of state.old) state.old.heap.marking choice.new.chosen
-        (machine_of state.new) state.new.heap.marking }
-    ensures collects { ask_of event ≡ Some Ask.Collect
-        → answer_in result ≡ Some (Answer.Truth (state.old.cycle_open && not (has_grey state.old.heap.marking))) }
-    ensures policy { KeepsByPolicy state.old.soft_age state.old.heap.clock (machine_of state.old) state.old.heap.marking
-        (ask_of event) choice.new.chosen }
-    ensures age { state.new.soft_age ≡ state.old.soft_age }
-    ensures clock { state.new.heap.clock ≡ clock_after (machine_of state.old) state.old.heap.clock (ask_of event)
-        (answer_in result) choice.new.chosen }
     ensures room { choice.new.cells ≡ choice.old.cells }
-    ensures cells { length state.new.heap.graph.objects ≡ length state.old.heap.graph.objects }
-    ensures waits { WaitsOn (machine_of state.new) state.old.cleaner state.new.cleaner }
 {
     match event {
         Event::Ask(ask) => step_ask(state, ask.get(), choice),
@@ -81,26 +59,9 @@ pub(crate) fn step_ask<R>(state: &mut State<R>, ask: &Ask, choice: &mut Choice) 
     requires room { length state.old.heap.graph.objects ≤ choice.old.cells }
     ensures entry { StepsMachine (machine_of state.old) state.old.heap.marking (Some ask.now)
         (answer_in result) choice.new.chosen (machine_of state.new) }
-    ensures flow { Conserves None state.old.cleaner.table (resource_of_reply result) state.new.cleaner.table }
-    ensures moves { Moves None state.old.cleaner.table (resource_of_reply result) state.new.cleaner.table }
-    ensures goes_out { GoesOut state.old.cleaner.table None (answer_in result) (resource_of_reply result) }
-    ensures memory { WantsMemory (machine_of state.old) state.old.cleaner.table (Some ask.now) (answer_in result) }
-    ensures table_room { LeavesRoom (Some ask.now) state.old.cleaner.table state.new.cleaner.table }
-    ensures reached { MarksReached (machine_of state.old) state.old.heap.marking (machine_of state.new)
-        state.new.heap.marking }
-    ensures begins { Begins (Some ask.now) (machine_of state.old) (machine_of state.new) state.new.heap.marking }
-    ensures blackens { BlackensNew {R = R} (Event.Ask ask.now) (machine_of state.old) state.old.heap.marking
-        choice.new.chosen (machine_of state.new) state.new.heap.marking }
-    ensures collects { Some ask.now ≡ Some Ask.Collect
-        → answer_in result ≡ Some (Answer.Truth (state.old.cycle_open && not (has_grey state.old.heap.marking))) }
-    ensures policy { KeepsByPolicy state.old.soft_age state.old.heap.clock (machine_of state.old) state.old.heap.marking
-        (Some ask.now) choice.new.chosen }
-    ensures age { state.new.soft_age ≡ state.old.soft_age }
-    ensures clock { state.new.heap.clock ≡ clock_after (machine_of state.old) state.old.heap.clock (Some ask.now)
-        (answer_in result) choice.new.chosen }
+    ensures rest { StepsState state.old (Event.Ask ask.now) (answer_in result) choice.new.chosen
+        (resource_of_reply result) state.new }
     ensures room { choice.new.cells ≡ choice.old.cells }
-    ensures cells { length state.new.heap.graph.objects ≡ length state.old.heap.graph.objects }
-    ensures waits { WaitsOn (machine_of state.new) state.old.cleaner state.new.cleaner }
 {
     match *ask {
         Ask::Clean { mutator, cleanable } => cleaned(cleaning::clean(state, mutator, cleanable)),
@@ -121,22 +82,8 @@ pub(crate) fn step_handler<R>(state: &mut State<R>) -> Handed
     requires waits { AllWait (machine_of state.old) state.old.cleaner.waiting }
     ensures entry { StepsMachine (machine_of state.old) state.old.heap.marking (Some Ask.HandOver)
         (Some (Answer.Handed result)) no_choice (machine_of state.new) }
-    ensures flow { Conserves None state.old.cleaner.table None state.new.cleaner.table }
-    ensures moves { Moves None state.old.cleaner.table None state.new.cleaner.table }
-    ensures memory { WantsMemory (machine_of state.old) state.old.cleaner.table (Some Ask.HandOver)
-        (Some (Answer.Handed result)) }
-    ensures table_room { LeavesRoom (Some Ask.HandOver) state.old.cleaner.table state.new.cleaner.table }
-    ensures reached { MarksReached (machine_of state.old) state.old.heap.marking (machine_of state.new)
-        state.new.heap.marking }
-    ensures blackens { BlackensNew {R = R} (Event.Ask Ask.HandOver) (machine_of state.old) state.old.heap.marking
-        no_choice (machine_of state.new) state.new.heap.marking }
-    ensures policy { KeepsByPolicy state.old.soft_age state.old.heap.clock (machine_of state.old) state.old.heap.marking
-        (Some Ask.HandOver) no_choice }
-    ensures age { state.new.soft_age ≡ state.old.soft_age }
-    ensures clock { state.new.heap.clock ≡ clock_after (machine_of state.old) state.old.heap.clock (Some Ask.HandOver)
-        (Some (Answer.Handed result)) no_choice }
-    ensures cells { length state.new.heap.graph.objects ≡ length state.old.heap.graph.objects }
-    ensures waits { WaitsOn (machine_of state.new) state.old.cleaner state.new.cleaner }
+    ensures rest { StepsState state.old (Event.Ask Ask.HandOver) (Some (Answer.Handed result)) no_choice
+        None state.new }
 {
     references::hand_over(state)
 }
@@ -148,23 +95,8 @@ pub(crate) fn step_cleaner<R>(state: &mut State<R>) -> Result<Option<Job<R>>, Re
     requires waits { AllWait (machine_of state.old) state.old.cleaner.waiting }
     ensures entry { StepsMachine (machine_of state.old) state.old.heap.marking (Some Ask.TakeUp)
         (Some (take_up_answered result)) no_choice (machine_of state.new) }
-    ensures flow { Conserves None state.old.cleaner.table (handed_out result) state.new.cleaner.table }
-    ensures moves { Moves None state.old.cleaner.table (handed_out result) state.new.cleaner.table }
-    ensures goes_out { GoesOut state.old.cleaner.table None (Some (take_up_answered result)) (handed_out result) }
-    ensures memory { WantsMemory (machine_of state.old) state.old.cleaner.table (Some Ask.TakeUp)
-        (Some (take_up_answered result)) }
-    ensures table_room { LeavesRoom (Some Ask.TakeUp) state.old.cleaner.table state.new.cleaner.table }
-    ensures reached { MarksReached (machine_of state.old) state.old.heap.marking (machine_of state.new)
-        state.new.heap.marking }
-    ensures blackens { BlackensNew {R = R} (Event.Ask Ask.TakeUp) (machine_of state.old) state.old.heap.marking
-        no_choice (machine_of state.new) state.new.heap.marking }
-    ensures policy { KeepsByPolicy state.old.soft_age state.old.heap.clock (machine_of state.old) state.old.heap.marking
-        (Some Ask.TakeUp) no_choice }
-    ensures age { state.new.soft_age ≡ state.old.soft_age }
-    ensures clock { state.new.heap.clock ≡ clock_after (machine_of state.old) state.old.heap.clock (Some Ask.TakeUp)
-        (Some (take_up_answered result)) no_choice }
-    ensures cells { length state.new.heap.graph.objects ≡ length state.old.heap.graph.objects }
-    ensures waits { WaitsOn (machine_of state.new) state.old.cleaner state.new.cleaner }
+    ensures rest { StepsState state.old (Event.Ask Ask.TakeUp) (Some (take_up_answered result)) no_choice
+        (handed_out result) state.new }
 {
     cleaning::take_up(state)
 }
@@ -181,24 +113,8 @@ pub(crate) fn step_finish<R>(
     requires waits { AllWait (machine_of state.old) state.old.cleaner.waiting }
     ensures entry { StepsMachine (machine_of state.old) state.old.heap.marking (Some (Ask.Finish by action outcome))
         (Some result) no_choice (machine_of state.new) }
-    ensures flow { Conserves None state.old.cleaner.table None state.new.cleaner.table }
-    ensures moves { Moves None state.old.cleaner.table None state.new.cleaner.table }
-    ensures goes_out { GoesOut state.old.cleaner.table None (Some result) None }
-    ensures memory { WantsMemory (machine_of state.old) state.old.cleaner.table (Some (Ask.Finish by action outcome))
-        (Some result) }
-    ensures table_room { LeavesRoom (Some (Ask.Finish by action outcome)) state.old.cleaner.table
-        state.new.cleaner.table }
-    ensures reached { MarksReached (machine_of state.old) state.old.heap.marking (machine_of state.new)
-        state.new.heap.marking }
-    ensures blackens { BlackensNew {R = R} (Event.Ask (Ask.Finish by action outcome)) (machine_of state.old)
-        state.old.heap.marking no_choice (machine_of state.new) state.new.heap.marking }
-    ensures policy { KeepsByPolicy state.old.soft_age state.old.heap.clock (machine_of state.old) state.old.heap.marking
-        (Some (Ask.Finish by action outcome)) no_choice }
-    ensures age { state.new.soft_age ≡ state.old.soft_age }
-    ensures clock { state.new.heap.clock ≡ clock_after (machine_of state.old) state.old.heap.clock
-        (Some (Ask.Finish by action outcome)) (Some result) no_choice }
-    ensures cells { length state.new.heap.graph.objects ≡ length state.old.heap.graph.objects }
-    ensures waits { WaitsOn (machine_of state.new) state.old.cleaner state.new.cleaner }
+    ensures rest { StepsState state.old (Event.Ask (Ask.Finish by action outcome)) (Some result) no_choice
+        None state.new }
 {
     answer_to(cleaning::finish(state, by, action, outcome))
 }
@@ -214,26 +130,8 @@ pub(crate) fn step_plain<R>(state: &mut State<R>, ask: &Ask, choice: &mut Choice
     requires room { length state.old.heap.graph.objects ≤ choice.old.cells }
     ensures entry { StepsMachine (machine_of state.old) state.old.heap.marking (Some ask.now)
         (Some result) choice.new.chosen (machine_of state.new) }
-    ensures flow { Conserves None state.old.cleaner.table None state.new.cleaner.table }
-    ensures moves { Moves None state.old.cleaner.table None state.new.cleaner.table }
-    ensures goes_out { GoesOut state.old.cleaner.table None (Some result) None }
-    ensures memory { WantsMemory (machine_of state.old) state.old.cleaner.table (Some ask.now) (Some result) }
-    ensures table_room { LeavesRoom (Some ask.now) state.old.cleaner.table state.new.cleaner.table }
-    ensures reached { MarksReached (machine_of state.old) state.old.heap.marking (machine_of state.new)
-        state.new.heap.marking }
-    ensures begins { Begins (Some ask.now) (machine_of state.old) (machine_of state.new) state.new.heap.marking }
-    ensures blackens { BlackensNew {R = R} (Event.Ask ask.now) (machine_of state.old) state.old.heap.marking
-        choice.new.chosen (machine_of state.new) state.new.heap.marking }
-    ensures collects { Some ask.now ≡ Some Ask.Collect
-        → result ≡ Answer.Truth (state.old.cycle_open && not (has_grey state.old.heap.marking)) }
-    ensures policy { KeepsByPolicy state.old.soft_age state.old.heap.clock (machine_of state.old) state.old.heap.marking
-        (Some ask.now) choice.new.chosen }
-    ensures age { state.new.soft_age ≡ state.old.soft_age }
-    ensures clock { state.new.heap.clock ≡ clock_after (machine_of state.old) state.old.heap.clock (Some ask.now)
-        (Some result) choice.new.chosen }
+    ensures rest { StepsState state.old (Event.Ask ask.now) (Some result) choice.new.chosen None state.new }
     ensures room { choice.new.cells ≡ choice.old.cells }
-    ensures cells { length state.new.heap.graph.objects ≡ length state.old.heap.graph.objects }
-    ensures waits { WaitsOn (machine_of state.new) state.old.cleaner state.new.cleaner }
 {
     answer_to(answer(state, ask, choice))
 }
@@ -249,27 +147,9 @@ fn answer<R>(state: &mut State<R>, ask: &Ask, choice: &mut Choice) -> Result<Ans
     requires room { length state.old.heap.graph.objects ≤ choice.old.cells }
     ensures entry { StepsMachine (machine_of state.old) state.old.heap.marking (Some ask.now)
         (Some (answer_of result)) choice.new.chosen (machine_of state.new) }
-    ensures flow { Conserves None state.old.cleaner.table None state.new.cleaner.table }
-    ensures moves { Moves None state.old.cleaner.table None state.new.cleaner.table }
-    ensures goes_out { GoesOut state.old.cleaner.table None (Some (answer_of result)) None }
-    ensures memory { WantsMemory (machine_of state.old) state.old.cleaner.table (Some ask.now)
-        (Some (answer_of result)) }
-    ensures table_room { LeavesRoom (Some ask.now) state.old.cleaner.table state.new.cleaner.table }
-    ensures reached { MarksReached (machine_of state.old) state.old.heap.marking (machine_of state.new)
-        state.new.heap.marking }
-    ensures begins { Begins (Some ask.now) (machine_of state.old) (machine_of state.new) state.new.heap.marking }
-    ensures blackens { BlackensNew {R = R} (Event.Ask ask.now) (machine_of state.old) state.old.heap.marking
-        choice.new.chosen (machine_of state.new) state.new.heap.marking }
-    ensures collects { Some ask.now ≡ Some Ask.Collect
-        → answer_of result ≡ Answer.Truth (state.old.cycle_open && not (has_grey state.old.heap.marking)) }
-    ensures policy { KeepsByPolicy state.old.soft_age state.old.heap.clock (machine_of state.old) state.old.heap.marking
-        (Some ask.now) choice.new.chosen }
-    ensures age { state.new.soft_age ≡ state.old.soft_age }
-    ensures clock { state.new.heap.clock ≡ clock_after (machine_of state.old) state.old.heap.clock (Some ask.now)
-        (Some (answer_of result)) choice.new.chosen }
+    ensures rest { StepsState state.old (Event.Ask ask.now) (Some (answer_of result)) choice.new.chosen
+        None state.new }
     ensures room { choice.new.cells ≡ choice.old.cells }
-    ensures cells { length state.new.heap.graph.objects ≡ length state.old.heap.graph.objects }
-    ensures waits { WaitsOn (machine_of state.new) state.old.cleaner state.new.cleaner }
 {
     match *ask {
         Ask::Join { mutator } => handles::join(state, mutator),

@@ -1,11 +1,12 @@
 //! The asks on sessions and handles.
-ghost use Rattle.std.specs.Prelude.{◌≡◌, ℕ, length, ◌&&◌, not, true, false, Some, is_some, MatchResult};
+ghost use Rattle.std.specs.Prelude.{◌≡◌, ℕ, ◌&&◌, not, true, false, Some, is_some, MatchResult};
 ghost use Rattle.jlr_machine.specs.Lookups.{has_free_handle};
 ghost use Rattle.jlr_machine.specs.Calls.{handle_given, with_given};
 ghost use Rattle.jlr_machine.specs.WellFormed.{IsWellFormed};
 ghost use Rattle.jlr_barrier.specs.Snapshots.{IsInHand};
 ghost use Rattle.jlr_state.specs.State.{Checks, Answered};
 ghost use Rattle.jlr_state.specs.Machines.{machine_of};
+ghost use Rattle.jlr_state.specs.Rest.{LeavesRest};
 
 use jlr_machine::ask::{Answer, Ask};
 use jlr_state::state::State;
@@ -13,10 +14,7 @@ use jlr_types::{Handle, Mutator, Refusal, Slot};
 
 pub(crate) fn join<R>(state: &mut State<R>, by: Mutator) -> Result<Answer, Refusal>
     ensures answered { Answered (machine_of state.old) (Ask.Join by) result (machine_of state.new) }
-    ensures cells { length state.new.heap.graph.objects ≡ length state.old.heap.graph.objects }
-    ensures age { state.new.soft_age ≡ state.old.soft_age }
-    ensures cleaner { state.new.cleaner ≡ state.old.cleaner }
-    ensures clock { state.new.heap.clock ≡ state.old.heap.clock }
+    ensures rest { LeavesRest state.old state.new }
     ensures marking { state.new.heap.marking ≡ state.old.heap.marking }
 {
     if by.number() as usize >= state.heap.mutator_count() || state.heap.is_joined(by) {
@@ -28,10 +26,7 @@ pub(crate) fn join<R>(state: &mut State<R>, by: Mutator) -> Result<Answer, Refus
 
 pub(crate) fn leave<R>(state: &mut State<R>, by: Mutator) -> Result<Answer, Refusal>
     ensures answered { Answered (machine_of state.old) (Ask.Leave by) result (machine_of state.new) }
-    ensures cells { length state.new.heap.graph.objects ≡ length state.old.heap.graph.objects }
-    ensures age { state.new.soft_age ≡ state.old.soft_age }
-    ensures cleaner { state.new.cleaner ≡ state.old.cleaner }
-    ensures clock { state.new.heap.clock ≡ state.old.heap.clock }
+    ensures rest { LeavesRest state.old state.new }
     ensures marking { state.new.heap.marking ≡ state.old.heap.marking }
 {
     state.check_session(by)?;
@@ -47,9 +42,7 @@ pub(crate) fn drop_handle<R>(
 ) -> Result<Answer, Refusal>
     requires { IsWellFormed (machine_of state.old) }
     ensures answered { Answered (machine_of state.old) (Ask.Drop by object) result (machine_of state.new) }
-    ensures age { state.new.soft_age ≡ state.old.soft_age }
-    ensures cleaner { state.new.cleaner ≡ state.old.cleaner }
-    ensures clock { state.new.heap.clock ≡ state.old.heap.clock }
+    ensures rest { LeavesRest state.old state.new }
     ensures marking { state.new.heap.marking ≡ state.old.heap.marking }
 {
     state.check_session(by)?;
@@ -79,9 +72,7 @@ pub(crate) fn same<R>(
 pub(crate) fn dup<R>(state: &mut State<R>, by: Mutator, object: Handle) -> Result<Answer, Refusal>
     requires { IsWellFormed (machine_of state.old) }
     ensures answered { Answered (machine_of state.old) (Ask.Dup by object) result (machine_of state.new) }
-    ensures age { state.new.soft_age ≡ state.old.soft_age }
-    ensures cleaner { state.new.cleaner ≡ state.old.cleaner }
-    ensures clock { state.new.heap.clock ≡ state.old.heap.clock }
+    ensures rest { LeavesRest state.old state.new }
     ensures marking { state.new.heap.marking ≡ state.old.heap.marking }
 {
     state.check_session(by)?;
@@ -113,9 +104,7 @@ pub(crate) fn give_known<R>(state: &mut State<R>, by: Mutator, target: Option<Sl
     ensures answer { handle_given (machine_of state.old) by target ≡ Some result }
     ensures held { machine_of state.new ≡ with_given (machine_of state.old) by target }
     ensures objects { state.new.heap.graph.objects ≡ state.old.heap.graph.objects }
-    ensures clock { state.new.heap.clock ≡ state.old.heap.clock }
-    ensures age { state.new.soft_age ≡ state.old.soft_age }
-    ensures cleaner { state.new.cleaner ≡ state.old.cleaner }
+    ensures rest { LeavesRest state.old state.new }
     ensures marking { state.new.heap.marking ≡ state.old.heap.marking }
 {
     match target {
@@ -138,9 +127,7 @@ pub(crate) fn give_or_null<R>(
         (λ r. (r ≡ Refusal.HandlesFull) × ((is_some target && not (has_free_handle (machine_of state.old) by)) ≡ true)
         × (machine_of state.new ≡ machine_of state.old)) }
     ensures objects { state.new.heap.graph.objects ≡ state.old.heap.graph.objects }
-    ensures clock { state.new.heap.clock ≡ state.old.heap.clock }
-    ensures age { state.new.soft_age ≡ state.old.soft_age }
-    ensures cleaner { state.new.cleaner ≡ state.old.cleaner }
+    ensures rest { LeavesRest state.old state.new }
     ensures marking { state.new.heap.marking ≡ state.old.heap.marking }
 {
     let Some(slot) = target else {

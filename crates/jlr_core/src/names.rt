@@ -7,6 +7,7 @@ ghost use Rattle.jlr_machine.specs.WellFormed.{IsWellFormed};
 ghost use Rattle.jlr_state.specs.Events.{MayWantMemory};
 ghost use Rattle.jlr_state.specs.State.{Checks, Answered, Meets, answer_of};
 ghost use Rattle.jlr_state.specs.Machines.{machine_of};
+ghost use Rattle.jlr_state.specs.Rest.{LeavesRest};
 
 use jlr_machine::ask::{Answer, Ask};
 use jlr_machine::text::Name;
@@ -73,10 +74,7 @@ pub(crate) fn bind<R>(
         (machine_of state.new) }
     ensures memory { answer_of result ≡ Answer.Refused Refusal.NoMemory
         → MayWantMemory (machine_of state.old) state.old.cleaner.table (Ask.Bind by name.now object) }
-    ensures cells { length state.new.heap.graph.objects ≡ length state.old.heap.graph.objects }
-    ensures age { state.new.soft_age ≡ state.old.soft_age }
-    ensures cleaner { state.new.cleaner ≡ state.old.cleaner }
-    ensures clock { state.new.heap.clock ≡ state.old.heap.clock }
+    ensures rest { LeavesRest state.old state.new }
     ensures marking { state.new.heap.marking ≡ state.old.heap.marking }
 {
     let slot = check_bind(state, by, name, object)?;
@@ -90,10 +88,7 @@ pub(crate) fn bind<R>(
 pub(crate) fn find<R>(state: &mut State<R>, by: Mutator, name: &Name) -> Result<Answer, Refusal>
     ensures answered { Answered (machine_of state.old) (Ask.Find by name.now) result (machine_of state.new) }
     ensures memory { answer_of result ≡ Answer.Refused Refusal.NoMemory → ⊥ }
-    ensures cells { length state.new.heap.graph.objects ≡ length state.old.heap.graph.objects }
-    ensures age { state.new.soft_age ≡ state.old.soft_age }
-    ensures cleaner { state.new.cleaner ≡ state.old.cleaner }
-    ensures clock { state.new.heap.clock ≡ state.old.heap.clock }
+    ensures rest { LeavesRest state.old state.new }
     ensures marking { state.new.heap.marking ≡ state.old.heap.marking }
 {
     state.check_session(by)?;
@@ -106,10 +101,7 @@ pub(crate) fn find<R>(state: &mut State<R>, by: Mutator, name: &Name) -> Result<
 pub(crate) fn unbind<R>(state: &mut State<R>, by: Mutator, name: &Name) -> Result<Answer, Refusal>
     ensures answered { Answered (machine_of state.old) (Ask.Unbind by name.now) result (machine_of state.new) }
     ensures memory { answer_of result ≡ Answer.Refused Refusal.NoMemory → ⊥ }
-    ensures cells { length state.new.heap.graph.objects ≡ length state.old.heap.graph.objects }
-    ensures age { state.new.soft_age ≡ state.old.soft_age }
-    ensures cleaner { state.new.cleaner ≡ state.old.cleaner }
-    ensures clock { state.new.heap.clock ≡ state.old.heap.clock }
+    ensures rest { LeavesRest state.old state.new }
     ensures marking { state.new.heap.marking ≡ state.old.heap.marking }
 {
     state.check_session(by)?;

@@ -5,11 +5,11 @@ ghost use Rattle.jlr_machine.specs.Refusals.{is_plain, is_record};
 ghost use Rattle.jlr_machine.specs.Choices.{nothing_chosen};
 ghost use Rattle.jlr_machine.specs.Run.{no_choice};
 ghost use Rattle.jlr_machine.specs.WellFormed.{IsWellFormed};
-ghost use Rattle.jlr_state.specs.Collecting.{after_choice};
 ghost use Rattle.jlr_state.specs.Events.{MayWantMemory};
 ghost use Rattle.jlr_state.specs.State.{Checks, Answered, FieldRefused, IntRefused, Meets, answer_of};
 ghost use Rattle.jlr_state.specs.Marks.{MarksNew};
 ghost use Rattle.jlr_state.specs.Machines.{machine_of};
+ghost use Rattle.jlr_state.specs.Rest.{LeavesRest, LeavesRestMaking};
 
 use crate::handles;
 use jlr_cells::{Elements, Shape};
@@ -73,9 +73,7 @@ pub(crate) fn get<R>(
 ) -> Result<Answer, Refusal>
     requires { IsWellFormed (machine_of state.old) }
     ensures answered { Answered (machine_of state.old) (Ask.Get by object field) result (machine_of state.new) }
-    ensures age { state.new.soft_age ≡ state.old.soft_age }
-    ensures cleaner { state.new.cleaner ≡ state.old.cleaner }
-    ensures clock { state.new.heap.clock ≡ state.old.heap.clock }
+    ensures rest { LeavesRest state.old state.new }
     ensures marking { state.new.heap.marking ≡ state.old.heap.marking }
 {
     state.check_session(by)?;
@@ -97,9 +95,7 @@ pub(crate) fn put<R>(
     requires { IsWellFormed (machine_of state.old) }
     ensures answered { Answered (machine_of state.old) (Ask.Put by object field value) result (machine_of state.new) }
     ensures memory { answer_of result ≡ Answer.Refused Refusal.NoMemory → ⊥ }
-    ensures age { state.new.soft_age ≡ state.old.soft_age }
-    ensures cleaner { state.new.cleaner ≡ state.old.cleaner }
-    ensures clock { state.new.heap.clock ≡ state.old.heap.clock }
+    ensures rest { LeavesRest state.old state.new }
     ensures marks { MarksNew (machine_of state.old) state.old.heap.marking no_choice (machine_of state.new)
         state.new.heap.marking }
 {
@@ -164,9 +160,7 @@ pub(crate) fn set_int<R>(
     ensures answered { Answered (machine_of state.old) (Ask.SetInt by object field value) result
         (machine_of state.new) }
     ensures memory { answer_of result ≡ Answer.Refused Refusal.NoMemory → ⊥ }
-    ensures age { state.new.soft_age ≡ state.old.soft_age }
-    ensures cleaner { state.new.cleaner ≡ state.old.cleaner }
-    ensures clock { state.new.heap.clock ≡ state.old.heap.clock }
+    ensures rest { LeavesRest state.old state.new }
     ensures marks { MarksNew (machine_of state.old) state.old.heap.marking no_choice (machine_of state.new)
         state.new.heap.marking }
 {
@@ -194,11 +188,7 @@ pub(crate) fn new_object<R>(
     ensures meets { Meets (machine_of state.old) (Ask.New by layout) (answer_of result) choice.new.chosen
         (machine_of state.new) }
     ensures memory { answer_of result ≡ Answer.Refused Refusal.NoMemory → ⊥ }
-    ensures room { choice.new.cells ≡ choice.old.cells }
-    ensures cells { length state.new.heap.graph.objects ≡ length state.old.heap.graph.objects }
-    ensures age { state.new.soft_age ≡ state.old.soft_age }
-    ensures cleaner { state.new.cleaner ≡ state.old.cleaner }
-    ensures clock { state.new.heap.clock ≡ after_choice choice.new.chosen state.old.heap.clock }
+    ensures rest { LeavesRestMaking state.old choice.old choice.new state.new }
     ensures marks { MarksNew (machine_of state.old) state.old.heap.marking choice.new.chosen (machine_of state.new)
         state.new.heap.marking }
 {
@@ -224,11 +214,7 @@ pub(crate) fn new_array<R>(
         (machine_of state.new) }
     ensures memory { answer_of result ≡ Answer.Refused Refusal.NoMemory
         → MayWantMemory (machine_of state.old) state.old.cleaner.table (Ask.Array by size) }
-    ensures room { choice.new.cells ≡ choice.old.cells }
-    ensures cells { length state.new.heap.graph.objects ≡ length state.old.heap.graph.objects }
-    ensures age { state.new.soft_age ≡ state.old.soft_age }
-    ensures cleaner { state.new.cleaner ≡ state.old.cleaner }
-    ensures clock { state.new.heap.clock ≡ after_choice choice.new.chosen state.old.heap.clock }
+    ensures rest { LeavesRestMaking state.old choice.old choice.new state.new }
     ensures marks { MarksNew (machine_of state.old) state.old.heap.marking choice.new.chosen (machine_of state.new)
         state.new.heap.marking }
 {

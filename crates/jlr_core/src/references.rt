@@ -8,10 +8,10 @@ ghost use Rattle.jlr_machine.specs.Refusals.{refusal, is_of_wrong_kind, is_queue
 ghost use Rattle.jlr_machine.specs.Run.{no_choice};
 ghost use Rattle.jlr_machine.specs.Choices.{nothing_chosen};
 ghost use Rattle.jlr_machine.specs.WellFormed.{IsWellFormed};
-ghost use Rattle.jlr_state.specs.Collecting.{after_choice};
 ghost use Rattle.jlr_state.specs.State.{Checks, Answered, Meets, answer_of, clock_after_deref};
 ghost use Rattle.jlr_state.specs.Marks.{MarksNew};
-ghost use Rattle.jlr_state.specs.Machines.{LeavesRest, machine_of};
+ghost use Rattle.jlr_state.specs.Machines.{machine_of};
+ghost use Rattle.jlr_state.specs.Rest.{LeavesRest, LeavesRestMaking};
 
 use crate::handles;
 use jlr_cells::Shape;
@@ -270,11 +270,7 @@ pub(crate) fn make_queue<R>(
     ensures meets { Meets (machine_of state.old) (Ask.MakeQueue by) (answer_of result) choice.new.chosen
         (machine_of state.new) }
     ensures memory { answer_of result ≡ Answer.Refused Refusal.NoMemory → ⊥ }
-    ensures room { choice.new.cells ≡ choice.old.cells }
-    ensures cells { length state.new.heap.graph.objects ≡ length state.old.heap.graph.objects }
-    ensures age { state.new.soft_age ≡ state.old.soft_age }
-    ensures cleaner { state.new.cleaner ≡ state.old.cleaner }
-    ensures clock { state.new.heap.clock ≡ after_choice choice.new.chosen state.old.heap.clock }
+    ensures rest { LeavesRestMaking state.old choice.old choice.new state.new }
     ensures marks { MarksNew (machine_of state.old) state.old.heap.marking choice.new.chosen (machine_of state.new)
         state.new.heap.marking }
 {
@@ -299,11 +295,7 @@ pub(crate) fn make_reference<R>(
     ensures meets { Meets (machine_of state.old) (Ask.MakeRef by kind referent queue) (answer_of result)
         choice.new.chosen (machine_of state.new) }
     ensures memory { answer_of result ≡ Answer.Refused Refusal.NoMemory → ⊥ }
-    ensures room { choice.new.cells ≡ choice.old.cells }
-    ensures cells { length state.new.heap.graph.objects ≡ length state.old.heap.graph.objects }
-    ensures age { state.new.soft_age ≡ state.old.soft_age }
-    ensures cleaner { state.new.cleaner ≡ state.old.cleaner }
-    ensures clock { state.new.heap.clock ≡ after_choice choice.new.chosen state.old.heap.clock }
+    ensures rest { LeavesRestMaking state.old choice.old choice.new state.new }
     ensures marks { MarksNew (machine_of state.old) state.old.heap.marking choice.new.chosen (machine_of state.new)
         state.new.heap.marking }
 {

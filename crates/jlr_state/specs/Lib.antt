@@ -2,6 +2,7 @@
 pub mod State
 pub mod Machines
 pub mod Collecting
+pub mod Rest
 pub mod Flows
 pub mod TakeUps
 pub mod Waiting

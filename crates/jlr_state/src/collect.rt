@@ -11,7 +11,7 @@ ghost use Rattle.jlr_soft.specs.declared.policy.Policy.{Policy};
 ghost use Rattle.jlr_machine.specs.WellFormed.{IsWellFormed};
 ghost use Rattle.jlr_machine.specs.Choices.{nothing_chosen};
 ghost use Rattle.jlr_sweep.specs.Collecting.{Collects};
-ghost use Rattle.jlr_state.specs.Collecting.{MakesRoom, Allocates, FindsNoRoom, after_choice, after_collected, mode_of};
+ghost use Rattle.jlr_state.specs.Collecting.{MakesRoom, Allocates, FindsNoRoom, after_collected, mode_of};
 ghost use Rattle.jlr_barrier.specs.Graphs.{counted};
 ghost use Rattle.jlr_marker.specs.Following.{keeps};
 ghost use Rattle.jlr_state.specs.Policy.{KeepsIn};
@@ -27,6 +27,7 @@ use jlr_types::{Mutator, Refusal, Slot};
 
 impl<R> State<R> {
     ghost use Rattle.jlr_state.specs.Machines.{machine_of};
+    ghost use Rattle.jlr_state.specs.Rest.{LeavesRestMaking};
 
     /// A full collection (see `jlr_sweep`). An open cycle is over then.
     pub(crate) fn collect(&mut self, mode: Mode, choice: &mut Choice)
@@ -74,14 +75,10 @@ impl<R> State<R> {
             ++ option_to_list (any_referent (object_of shape))) → s ∈ slots_held self.old.heap.graph.mutators }
         ensures allocates { IfOk result (λ slot. Allocates (machine_of self.old) (object_of shape) choice.new slot
             (machine_of self.new)) }
-        ensures clock { self.new.heap.clock ≡ after_choice choice.new.chosen self.old.heap.clock }
+        ensures rest { LeavesRestMaking self.old choice.old choice.new self.new }
         ensures black { IfOk result (λ slot. IsMarked self.new.heap.marking slot) }
         ensures full { IfErr result (λ r. (r ≡ Refusal.HeapFull)
             × FindsNoRoom (machine_of self.old) 1 choice.new (machine_of self.new)) }
-        ensures room { choice.new.cells ≡ choice.old.cells }
-        ensures cells { length self.new.heap.graph.objects ≡ length self.old.heap.graph.objects }
-        ensures age { self.new.soft_age ≡ self.old.soft_age }
-        ensures cleaner { self.new.cleaner ≡ self.old.cleaner }
         ensures one { IfOk result (λ slot. BlackensMade choice.new.chosen slot self.old.heap.marking
             self.new.heap.marking) }
     {
@@ -105,14 +102,10 @@ impl<R> State<R> {
         requires null { (s : ℕ) → s ∈ slots_in (ElementsOf elements) → ⊥ }
         ensures allocates { IfOk result (λ slot. Allocates (machine_of self.old) (Plain (ElementsOf elements))
             choice.new slot (machine_of self.new)) }
-        ensures clock { self.new.heap.clock ≡ after_choice choice.new.chosen self.old.heap.clock }
+        ensures rest { LeavesRestMaking self.old choice.old choice.new self.new }
         ensures black { IfOk result (λ slot. IsMarked self.new.heap.marking slot) }
         ensures full { IfErr result (λ r. (r ≡ Refusal.HeapFull)
             × FindsNoRoom (machine_of self.old) 1 choice.new (machine_of self.new)) }
-        ensures room { choice.new.cells ≡ choice.old.cells }
-        ensures cells { length self.new.heap.graph.objects ≡ length self.old.heap.graph.objects }
-        ensures age { self.new.soft_age ≡ self.old.soft_age }
-        ensures cleaner { self.new.cleaner ≡ self.old.cleaner }
         ensures one { IfOk result (λ slot. BlackensMade choice.new.chosen slot self.old.heap.marking
             self.new.heap.marking) }
     {
@@ -137,11 +130,7 @@ impl<R> State<R> {
         ensures meets { Meets (machine_of self.old) (Ask.Full by mode) (answer_of result) choice.new.chosen
             (machine_of self.new) }
         ensures memory { answer_of result ≡ Answer.Refused Refusal.NoMemory → ⊥ }
-        ensures room { choice.new.cells ≡ choice.old.cells }
-        ensures cells { length self.new.heap.graph.objects ≡ length self.old.heap.graph.objects }
-        ensures age { self.new.soft_age ≡ self.old.soft_age }
-        ensures cleaner { self.new.cleaner ≡ self.old.cleaner }
-        ensures clock { self.new.heap.clock ≡ after_choice choice.new.chosen self.old.heap.clock }
+        ensures rest { LeavesRestMaking self.old choice.old choice.new self.new }
         ensures policy { KeepsIn (mode_of mode) self.old.soft_age self.old.heap.clock (machine_of self.old)
             choice.new.chosen }
         ensures marks { MarksNew (machine_of self.old) self.old.heap.marking choice.new.chosen (machine_of self.new)

@@ -10,6 +10,7 @@ use jlr_types::{Handle, Mutator, Slot};
 
 impl<R> State<R> {
     ghost use Rattle.jlr_state.specs.Machines.{machine_of};
+    ghost use Rattle.jlr_state.specs.Rest.{LeavesRest};
 
     /// The mutator holds a slot by its lowest free handle.
     pub fn give(&mut self, by: Mutator, slot: Slot) -> Answer
@@ -18,9 +19,7 @@ impl<R> State<R> {
         ensures answer { new_handle (machine_of self.old) by ≡ Some result }
         ensures held { machine_of self.new ≡ with_handle (machine_of self.old) by slot }
         ensures objects { self.new.heap.graph.objects ≡ self.old.heap.graph.objects }
-        ensures clock { self.new.heap.clock ≡ self.old.heap.clock }
-        ensures age { self.new.soft_age ≡ self.old.soft_age }
-        ensures cleaner { self.new.cleaner ≡ self.old.cleaner }
+        ensures rest { LeavesRest self.old self.new }
         ensures marking { self.new.heap.marking ≡ self.old.heap.marking }
     {
         match self.heap.put_handle(by, slot) {

@@ -1,5 +1,5 @@
 //! Jobs that a mutator takes up, and the numbers of actions.
-ghost use Rattle.std.specs.Prelude.{◌≡◌, ◌≢◌, ◌-◌, ◌^◌, None, Some, not, length, nat_le};
+ghost use Rattle.std.specs.Prelude.{◌≡◌, ◌≢◌, ◌-◌, ◌^◌, None, Some, not, nat_le};
 ghost use Rattle.jlr_machine.specs.declared.object.Cleanable.{Cleanable};
 ghost use Rattle.jlr_machine.specs.declared.object.Object.TheVariants as object;
 ghost use Rattle.jlr_machine.specs.declared.object.CleanState.TheVariants as state;
@@ -26,6 +26,7 @@ const CLEANER: u8 = 255;
 
 impl<R> State<R> {
     ghost use Rattle.jlr_state.specs.Machines.{machine_of};
+    ghost use Rattle.jlr_state.specs.Rest.{LeavesSizes};
 
     /// An action number is left.
     pub fn check_numbers(&self) -> Result<(), Refusal>
@@ -52,10 +53,7 @@ impl<R> State<R> {
         ensures flow { Conserves None self.old.cleaner.table (job_resource result) self.new.cleaner.table }
         ensures moves { Moves None self.old.cleaner.table (job_resource result) self.new.cleaner.table }
         ensures goes_out { GoesOut self.old.cleaner.table None (Some (started_answer result)) (job_resource result) }
-        ensures cells { length self.new.heap.graph.objects ≡ length self.old.heap.graph.objects }
-        ensures age { self.new.soft_age ≡ self.old.soft_age }
-        ensures table_room { self.new.cleaner.table.room ≡ self.old.cleaner.table.room }
-        ensures clock { self.new.heap.clock ≡ self.old.heap.clock }
+        ensures rest { LeavesSizes self.old self.new }
         ensures waits { WaitsOn (machine_of self.new) self.old.cleaner self.new.cleaner }
         ensures marking { self.new.heap.marking ≡ self.old.heap.marking }
     {
@@ -82,9 +80,7 @@ impl<R> State<R> {
         ensures put_in_last { HandsOut self.old.cleaner.table cleanable.work result.resource }
         ensures flow { Conserves None self.old.cleaner.table result.resource self.new.cleaner.table }
         ensures moves { Moves None self.old.cleaner.table result.resource self.new.cleaner.table }
-        ensures age { self.new.soft_age ≡ self.old.soft_age }
-        ensures table_room { self.new.cleaner.table.room ≡ self.old.cleaner.table.room }
-        ensures clock { self.new.heap.clock ≡ self.old.heap.clock }
+        ensures rest { LeavesSizes self.old self.new }
         ensures waits { Releases (machine_of self.new) self.old.cleaner self.new.cleaner }
         ensures marking { self.new.heap.marking ≡ self.old.heap.marking }
     {

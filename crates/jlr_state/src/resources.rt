@@ -1,5 +1,5 @@
 //! The asks on files and sockets: a call on one begins, and ends.
-ghost use Rattle.std.specs.Prelude.{◌≡◌, ◌&&◌, IsTrue, MatchResult, None, Some, false, is_some, length, not, true};
+ghost use Rattle.std.specs.Prelude.{◌≡◌, ◌&&◌, IsTrue, MatchResult, None, Some, false, is_some, not, true};
 ghost use Rattle.jlr_machine.specs.declared.object.Object.TheVariants as object;
 ghost use Rattle.jlr_machine.specs.declared.ask.Outcome.{Outcome};
 ghost use Rattle.jlr_machine.specs.declared.ask.Outcome.TheVariants as ended;
@@ -38,6 +38,7 @@ pub(crate) struct Guarded {
 
 impl<R> State<R> {
     ghost use Rattle.jlr_state.specs.Machines.{machine_of};
+    ghost use Rattle.jlr_state.specs.Rest.{LeavesSizes};
 
     // ---- A guard that a call holds
 
@@ -103,10 +104,7 @@ impl<R> State<R> {
             self.new.cleaner.table }
         ensures goes_out { GoesOut self.old.cleaner.table (resource_of outcome) (answer_in result)
             (resource_of_reply result) }
-        ensures cells { length self.new.heap.graph.objects ≡ length self.old.heap.graph.objects }
-        ensures age { self.new.soft_age ≡ self.old.soft_age }
-        ensures table_room { self.new.cleaner.table.room ≡ self.old.cleaner.table.room }
-        ensures clock { self.new.heap.clock ≡ self.old.heap.clock }
+        ensures rest { LeavesSizes self.old self.new }
         ensures waits { WaitsOn (machine_of self.new) self.old.cleaner self.new.cleaner }
         ensures marks { MarksNew (machine_of self.old) self.old.heap.marking no_choice (machine_of self.new)
             self.new.heap.marking }
@@ -138,10 +136,7 @@ impl<R> State<R> {
         ensures flow { Conserves (resource_of outcome) self.old.cleaner.table None self.new.cleaner.table }
         ensures moves { Moves (resource_of outcome) self.old.cleaner.table None self.new.cleaner.table }
         ensures goes_out { GoesOut self.old.cleaner.table (resource_of outcome) (Some result) None }
-        ensures cells { length self.new.heap.graph.objects ≡ length self.old.heap.graph.objects }
-        ensures age { self.new.soft_age ≡ self.old.soft_age }
-        ensures table_room { self.new.cleaner.table.room ≡ self.old.cleaner.table.room }
-        ensures clock { self.new.heap.clock ≡ self.old.heap.clock }
+        ensures rest { LeavesSizes self.old self.new }
         ensures waits { WaitsOn (machine_of self.new) self.old.cleaner self.new.cleaner }
         ensures marks { MarksNew (machine_of self.old) self.old.heap.marking no_choice (machine_of self.new)
             self.new.heap.marking }
@@ -160,10 +155,7 @@ impl<R> State<R> {
         ensures opened { machine_of self.new ≡ opened (machine_of self.old) by held.guard ended.Ok }
         ensures flow { Conserves (Some resource) self.old.cleaner.table None self.new.cleaner.table }
         ensures moves { Moves (Some resource) self.old.cleaner.table None self.new.cleaner.table }
-        ensures cells { length self.new.heap.graph.objects ≡ length self.old.heap.graph.objects }
-        ensures age { self.new.soft_age ≡ self.old.soft_age }
-        ensures table_room { self.new.cleaner.table.room ≡ self.old.cleaner.table.room }
-        ensures clock { self.new.heap.clock ≡ self.old.heap.clock }
+        ensures rest { LeavesSizes self.old self.new }
         ensures waits { WaitAsBefore self.old.cleaner self.new.cleaner }
         ensures marks { MarksNew (machine_of self.old) self.old.heap.marking no_choice (machine_of self.new)
             self.new.heap.marking }
@@ -181,10 +173,7 @@ impl<R> State<R> {
         ensures opened { machine_of self.new ≡ opened (machine_of self.old) by held.guard (ended.Failed fault) }
         ensures flow { Conserves None self.old.cleaner.table None self.new.cleaner.table }
         ensures moves { Moves None self.old.cleaner.table None self.new.cleaner.table }
-        ensures cells { length self.new.heap.graph.objects ≡ length self.old.heap.graph.objects }
-        ensures age { self.new.soft_age ≡ self.old.soft_age }
-        ensures table_room { self.new.cleaner.table.room ≡ self.old.cleaner.table.room }
-        ensures clock { self.new.heap.clock ≡ self.old.heap.clock }
+        ensures rest { LeavesSizes self.old self.new }
         ensures waits { Releases (machine_of self.new) self.old.cleaner self.new.cleaner }
         ensures marks { MarksNew (machine_of self.old) self.old.heap.marking no_choice (machine_of self.new)
             self.new.heap.marking }
@@ -276,10 +265,7 @@ impl<R> State<R> {
         ensures flow { Conserves None self.old.cleaner.table (resource_of_reply result) self.new.cleaner.table }
         ensures moves { Moves None self.old.cleaner.table (resource_of_reply result) self.new.cleaner.table }
         ensures goes_out { GoesOut self.old.cleaner.table None (answer_in result) (resource_of_reply result) }
-        ensures cells { length self.new.heap.graph.objects ≡ length self.old.heap.graph.objects }
-        ensures age { self.new.soft_age ≡ self.old.soft_age }
-        ensures table_room { self.new.cleaner.table.room ≡ self.old.cleaner.table.room }
-        ensures clock { self.new.heap.clock ≡ self.old.heap.clock }
+        ensures rest { LeavesSizes self.old self.new }
         ensures waits { WaitAsBefore self.old.cleaner self.new.cleaner }
         ensures marking { self.new.heap.marking ≡ self.old.heap.marking }
     {
@@ -314,10 +300,7 @@ impl<R> State<R> {
         ensures moves { Moves (Some resource) self.old.cleaner.table (resource_of_reply result) self.new.cleaner.table }
         ensures goes_out { GoesOut self.old.cleaner.table (Some resource) (answer_in result)
             (resource_of_reply result) }
-        ensures cells { length self.new.heap.graph.objects ≡ length self.old.heap.graph.objects }
-        ensures age { self.new.soft_age ≡ self.old.soft_age }
-        ensures table_room { self.new.cleaner.table.room ≡ self.old.cleaner.table.room }
-        ensures clock { self.new.heap.clock ≡ self.old.heap.clock }
+        ensures rest { LeavesSizes self.old self.new }
         ensures waits { WaitAsBefore self.old.cleaner self.new.cleaner }
         ensures marks { MarksNew (machine_of self.old) self.old.heap.marking no_choice (machine_of self.new)
             self.new.heap.marking }
@@ -372,10 +355,7 @@ impl<R> State<R> {
         ensures flow { Conserves None self.old.cleaner.table (handed_out result) self.new.cleaner.table }
         ensures moves { Moves None self.old.cleaner.table (handed_out result) self.new.cleaner.table }
         ensures goes_out { GoesOut self.old.cleaner.table None (Some (clean_answer result)) (handed_out result) }
-        ensures cells { length self.new.heap.graph.objects ≡ length self.old.heap.graph.objects }
-        ensures age { self.new.soft_age ≡ self.old.soft_age }
-        ensures table_room { self.new.cleaner.table.room ≡ self.old.cleaner.table.room }
-        ensures clock { self.new.heap.clock ≡ self.old.heap.clock }
+        ensures rest { LeavesSizes self.old self.new }
         ensures waits { WaitsOn (machine_of self.new) self.old.cleaner self.new.cleaner }
         ensures marking { self.new.heap.marking ≡ self.old.heap.marking }
     {

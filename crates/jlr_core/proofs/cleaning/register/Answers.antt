@@ -53,7 +53,7 @@ returns-in-Ok-allocate-clause-meets g c =
     let s = c.args.state.now in
     let m = machine_of s in
     let mid = machine_of c.allocate.new.self in
-    let same = c.in-Ok-allocate.ensures.cleaner in
+    let same = c.in-Ok-allocate.ensures.rest.cleaner in
     let left = subst (λ (k : Cleanings g.row.R.Denot). nat_le (2 ^ 64 - 1) k.next_action ≡ false) (sym same) c.in-Ok.ensures.3 in
     let number = numbered c.register-action.result c.in-Ok-allocate.slot c.allocate.new.self.cleaner c.register-action.new.self left
     c.register-action.ensures.registered c.register-action.ensures.none in
@@ -71,7 +71,7 @@ returns-in-Ok-allocate-clause-waits g c =
     let mid = c.allocate.new.self in
     let slot = c.in-Ok-allocate.slot in
     let n = machine_of c.give.new.self in
-    let same = c.in-Ok-allocate.ensures.cleaner in
+    let same = c.in-Ok-allocate.ensures.rest.cleaner in
     let left = subst (λ (k : Cleanings g.row.R.Denot). nat_le (2 ^ 64 - 1) k.next_action ≡ false) (sym same) c.in-Ok.ensures.3 in
     let number = numbered c.register-action.result slot mid.cleaner c.register-action.new.self left c.register-action.ensures.registered
     c.register-action.ensures.none in
@@ -82,9 +82,10 @@ returns-in-Ok-allocate-clause-waits g c =
     ∙ ap {A = Cleanings g.row.R.Denot} {B = ℕ} (λ k. k.next_action) (sym same) in
     let long : length mid.cleaner.waiting ≡ length s.cleaner.waiting =
     ap {A = Cleanings g.row.R.Denot} {B = ℕ} (λ k. length k.waiting) same in
-    let inside : slot < length mid.cleaner.waiting = omega (arith, made.0, long, c.requires.waits.places, c.in-Ok-allocate.ensures.cells) in
+    let inside : slot < length mid.cleaner.waiting =
+    omega (arith, made.0, long, c.requires.waits.places, c.in-Ok-allocate.ensures.rest.cells) in
     let registered =
-    registers n mid.cleaner c.give.new.self.cleaner slot armed inside there refl action (c.give.ensures.cleaner ∙ number) in
+    registers n mid.cleaner c.give.new.self.cleaner slot armed inside there refl action (c.give.ensures.rest.cleaner ∙ number) in
     inr (inl (subst (λ (k : Cleanings g.row.R.Denot). Registers n k c.give.new.self.cleaner) same registered))
 
 -- a handle names what it is registered for

@@ -1,4 +1,4 @@
-use Rattle.std.proofs.Common.{◌≡◌, ℕ, [], None, Some, inr, refl, sym, subst, ap, ◌∙◌}
+use Rattle.std.proofs.Common.{rules, ◌≡◌, ℕ, [], None, Some, inr, refl, sym, subst, ap, ◌∙◌}
 use Rattle.jlr_machine.specs.declared.machine.Machine.{Machine}
 use Rattle.jlr_machine.specs.Objects.{Heap, change_at, with_cleanable}
 use Rattle.jlr_machine.specs.declared.ask.Ask.TheVariants.{TakeUp}
@@ -69,12 +69,16 @@ returns-clause-meets g c =
     meets_plain m n TakeUp (Job c.take_up-job.result.action c.take_up-job.result.work) tt
     (line_allowed m (sym c.runs_job.ensures ∙ c.if-runs_job.false)) told left
 
-pub returns-clause-cells : goal.returns-clause-cells
-returns-clause-cells g c =
+pub returns-clause-rest : goal.returns-clause-rest
+returns-clause-rest g c =
     let s = c.args.state.now in
-    let m = machine_of s in
-    front_long m (machine_with s.cleaner c.take_lined.new.heap.graph s.cycle_open) (from_lined m m.line)
-    (c.in-Some.ensures.taken (frame_of s)).1
+    let m = machine_of s in record {
+      cells = front_long m (machine_with s.cleaner c.take_lined.new.heap.graph s.cycle_open) (from_lined m m.line)
+          (c.in-Some.ensures.taken (frame_of s)).1;
+      age = search rules;
+      table_room = search rules;
+      clock = search rules;
+    }
 
 pub returns-clause-moves : goal.returns-clause-moves
 returns-clause-moves g c =

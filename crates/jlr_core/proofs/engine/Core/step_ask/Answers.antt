@@ -1,70 +1,24 @@
-use Rattle.std.proofs.Common.{◌≡◌, ◌&&◌, None, Some, length, not, refl, sym, subst}
-use Rattle.jlr_machine.specs.declared.ask.Ask.TheVariants.{Collect}
-use Rattle.jlr_machine.specs.declared.ask.Answer.TheVariants.{Truth}
+use Rattle.std.proofs.Common.{subst}
 use Rattle.jlr_event.specs.declared.event.Event.TheVariants.{Ask as Asks}
 use Rattle.jlr_event.specs.Events.{answer_in, resource_of_reply}
-use Rattle.jlr_state.specs.Machines.{machine_of}
-use Rattle.jlr_state.specs.Events.{WantsMemory}
-use Rattle.jlr_state.specs.Marks.{Begins, BlackensNew, has_grey}
-use Rattle.jlr_state.specs.Flows.{Conserves, GoesOut, Moves}
-use Rattle.jlr_core.specs.Cores.{Kept, StandsIn}
-use Rattle.jlr_state.specs.Policy.{KeepsByPolicy, clock_after}
-use Rattle.jlr_core.specs.Steps.{LeavesRoom}
-use Rattle.jlr_state.proofs.Stepping.{well_formed_after, enters}
-use Rattle.jlr_state.proofs.Awaiting.{all_wait_after}
+use Rattle.jlr_core.specs.Cores.{Kept}
+use Rattle.jlr_core.specs.Steps.{IsStep}
+use Rattle.jlr_core.proofs.CoreSteps.{keeps_invariant, kept_of, steps_core}
 use Rattle.jlr_core.proofs.engine.Core.step_ask.Goals as goal
 
 pub invariant_of-self : goal.invariant_of-self
 invariant_of-self g c =
-    let old = c.self.inside.state in
-    let new = c.step_ask.new.state in
-    let m = machine_of old in
-    let n = machine_of new in
     let did = c.step_ask.ensures in
-    let ask = Some c.args.ask.now in
-    let answer = answer_in c.step_ask.result in
-    let chosen = c.step_ask.new.choice.chosen in
-    let formed = well_formed_after m n old.heap.marking ask answer chosen refl refl c.self.invariant.0 did.entry in (
-      formed,
-      all_wait_after m n old.heap.marking old.cleaner new.cleaner ask answer chosen refl refl
-          c.self.invariant.0 formed refl refl did.cells did.entry c.self.invariant.1 did.waits,
-    )
+    keeps_invariant c.self.inside.state c.step_ask.new.state
+    (Asks {R = g.row.R.Denot} c.args.ask.now) (answer_in c.step_ask.result)
+    c.step_ask.new.choice.chosen (resource_of_reply c.step_ask.result) c.self.invariant.0 c.self.invariant.1 did.entry did.rest
 
 pub returns-clause-step : goal.returns-clause-step
 returns-clause-step g c =
-    let ask = Some c.args.ask.now in
-    let reply = c.step_ask.result in
-    let answer = answer_in reply in
-    let out = resource_of_reply reply in
-    let chosen = c.step_ask.new.choice.chosen in
-    let old = c.self.inside.state in
-    let new = c.step_ask.new.state in
-    let n = machine_of new in
     let did = c.step_ask.ensures in
-    record {
-      entry =
-          λ m stands.
-          enters (machine_of old) n old.heap.marking new.heap.marking ask answer chosen refl refl c.self.invariant.0
-          did.cells did.entry did.reached did.begins m (subst (λ k. StandsIn k m) (sym c.self.view_is) stands);
-      cells = subst (λ (k : Kept g.row.R.Denot). length n.objects ≡ length k.machine.objects) c.self.view_is did.cells;
-      flow = subst (λ (k : Kept g.row.R.Denot). Conserves None k.table out new.cleaner.table) c.self.view_is did.flow;
-      moves = subst (λ (k : Kept g.row.R.Denot). Moves None k.table out new.cleaner.table) c.self.view_is did.moves;
-      listed = refl;
-      goes_out = subst (λ (k : Kept g.row.R.Denot). GoesOut k.table None answer out) c.self.view_is did.goes_out;
-      memory = subst (λ (k : Kept g.row.R.Denot). WantsMemory k.machine k.table ask answer) c.self.view_is did.memory;
-      table_room = subst (λ (k : Kept g.row.R.Denot). LeavesRoom ask k.table new.cleaner.table) c.self.view_is did.table_room;
-      begins = subst (λ (k : Kept g.row.R.Denot). Begins ask k.machine n new.heap.marking) c.self.view_is did.begins;
-      marking = tt;
-      blackens =
-          subst (λ (k : Kept g.row.R.Denot). BlackensNew {R = g.row.R.Denot} (Asks c.args.ask.now) k.machine k.marking chosen n
-          new.heap.marking) c.self.view_is did.blackens;
-      collects =
-          subst
-          (λ (k : Kept g.row.R.Denot).
-          ask ≡ Some Collect → answer ≡ Some (Truth (k.machine.cycle_open && not (has_grey k.marking))))
-          c.self.view_is did.collects;
-      policy =
-          subst (λ (k : Kept g.row.R.Denot). KeepsByPolicy k.soft_age k.clock k.machine k.marking ask chosen) c.self.view_is did.policy;
-      age = subst (λ (k : Kept g.row.R.Denot). new.soft_age ≡ k.soft_age) c.self.view_is did.age;
-      clock = subst (λ (k : Kept g.row.R.Denot). new.heap.clock ≡ clock_after k.machine k.clock ask answer chosen) c.self.view_is did.clock;
-    }
+    let new = c.step_ask.new.state in
+    let event = Asks {R = g.row.R.Denot} c.args.ask.now in
+    let reply = c.step_ask.result in
+    let chosen = c.step_ask.new.choice.chosen in
+    subst (λ (k : Kept g.row.R.Denot). IsStep k event reply chosen (kept_of new)) c.self.view_is
+    (steps_core c.self.inside.state new event reply chosen c.self.invariant.0 did.entry did.rest tt)

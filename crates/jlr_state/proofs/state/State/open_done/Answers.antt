@@ -36,7 +36,7 @@ returns-clause-moves g c =
     let old = c.args.self.now.cleaner.table in
     let rid = c.args.held.guard.rid in
     let given : c.opened.new.self.table ≡ c.give.new.self.cleaner.table =
-    ap {A = Cleanings g.row.R.Denot} {B = Resources g.row.R.Denot} (λ x. x.table) (sym c.give.ensures.cleaner) in
+    ap {A = Cleanings g.row.R.Denot} {B = Resources g.row.R.Denot} (λ x. x.table) (sym c.give.ensures.rest.cleaner) in
     subst (λ (t : Resources g.row.R.Denot). Moves (Some c.args.resource) old None t) given
     (put_in old c.opened.new.self.table rid Opening c.args.resource c.requires.held.resource (λ e. absurd (cc e)) c.opened.ensures.lies_here
     c.opened.ensures.others)
