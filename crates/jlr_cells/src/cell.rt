@@ -6,13 +6,13 @@ ghost use Rattle.jlr_machine.specs.Objects.{with_reference};
 ghost use Rattle.jlr_machine.specs.Refusals.{is_cleanable, is_record, is_reference};
 ghost use Rattle.jlr_machine.specs.declared.object.Object.TheVariants.{Plain};
 ghost use Rattle.jlr_machine.specs.declared.object.Contents.TheVariants.{Elements as ElementsOf};
-ghost use Rattle.jlr_machine.specs.Calls.{spent, unreferred};
-ghost use Rattle.jlr_cells.specs.Contents.{field_in, is_array, in_clean_state, in_state, kind_in, next_in, object_in};
-ghost use Rattle.jlr_cells.specs.Contents.{object_of, referent_in, unregistered, watching, with_list};
-ghost use Rattle.jlr_cells.specs.Contents.{cleanable_without_referent};
+ghost use Rattle.jlr_cells.specs.Contents.{field_in, is_array, kind_in, next_in, object_in};
+ghost use Rattle.jlr_cells.specs.Contents.{object_of, referent_in, with_list};
+ghost use Rattle.jlr_cells.specs.Changes.{altered_cleanable, altered_reference};
 ghost use Rattle.jlr_links.specs.Lists.{list_at};
 ghost use Rattle.jlr_cells.specs.Links.{links_of, no_links};
 
+use crate::change::{CleanChange, RefChange};
 use crate::elements::Elements;
 use crate::fields::Fields;
 use crate::shape::{Kind, Shape};
@@ -155,90 +155,41 @@ impl Cell {
         }
     }
 
-    /// A reference comes into another state.
-    pub(crate) fn set_state(&mut self, state: RefState)
+    /// Something changes in a reference.
+    #[inline(always)]
+    pub(crate) fn change_reference(&mut self, change: RefChange)
         requires { IsTrue (some_and is_reference (object_in self.old)) }
-        ensures new { object_in self.new ≡ option_map (with_reference (in_state state)) (object_in self.old) }
+        ensures new { object_in self.new ≡ option_map (with_reference (altered_reference change)) (object_in self.old) }
         ensures kind { kind_in self.new ≡ kind_in self.old }
     {
-        match self {
-            Cell::Reference(reference) => reference.state = state,
-            _ => unreachable!(),
+        let Cell::Reference(reference) = self else {
+            unreachable!()
+        };
+        match change {
+            RefChange::State(state) => reference.state = state,
+            RefChange::NoQueue => reference.queue = None,
+            RefChange::NoReferent => reference.referent = None,
         }
     }
 
-    /// A reference is registered with no queue any more.
-    pub(crate) fn cut_queue(&mut self)
-        requires { IsTrue (some_and is_reference (object_in self.old)) }
-        ensures new { object_in self.new ≡ option_map (with_reference unregistered) (object_in self.old) }
-        ensures kind { kind_in self.new ≡ kind_in self.old }
-    {
-        match self {
-            Cell::Reference(reference) => reference.queue = None,
-            _ => unreachable!(),
-        }
-    }
-
-    /// A reference loses its referent.
-    pub(crate) fn clear_referent(&mut self)
-        requires { IsTrue (some_and is_reference (object_in self.old)) }
-        ensures new { object_in self.new ≡ option_map (with_reference unreferred) (object_in self.old) }
-        ensures kind { kind_in self.new ≡ kind_in self.old }
-    {
-        match self {
-            Cell::Reference(reference) => reference.referent = None,
-            _ => unreachable!(),
-        }
-    }
-
-    /// A cleanable comes into another state.
-    pub(crate) fn set_clean_state(&mut self, state: CleanState)
+    /// Something changes in a cleanable.
+    #[inline(always)]
+    pub(crate) fn change_cleanable(&mut self, change: CleanChange)
         requires { IsTrue (some_and is_cleanable (object_in self.old)) }
-        ensures new { object_in self.new ≡ option_map (with_cleanable (in_clean_state state)) (object_in self.old) }
+        ensures new { object_in self.new ≡ option_map (with_cleanable (altered_cleanable change)) (object_in self.old) }
         ensures kind { kind_in self.new ≡ kind_in self.old }
     {
-        match self {
-            Cell::Cleanable(cleanable) => cleanable.state = state,
-            _ => unreachable!(),
-        }
-    }
-
-    /// A cleanable loses its referent.
-    pub(crate) fn clear_cleanable(&mut self)
-        requires { IsTrue (some_and is_cleanable (object_in self.old)) }
-        ensures new { object_in self.new ≡ option_map (with_cleanable cleanable_without_referent) (object_in self.old) }
-        ensures kind { kind_in self.new ≡ kind_in self.old }
-    {
-        match self {
-            Cell::Cleanable(cleanable) => cleanable.referent = None,
-            _ => unreachable!(),
-        }
-    }
-
-    /// A cleanable waits for an object from now on.
-    pub(crate) fn watch(&mut self, referent: Slot)
-        requires { IsTrue (some_and is_cleanable (object_in self.old)) }
-        ensures new { object_in self.new ≡ option_map (with_cleanable (watching referent)) (object_in self.old) }
-        ensures kind { kind_in self.new ≡ kind_in self.old }
-    {
-        match self {
-            Cell::Cleanable(cleanable) => cleanable.referent = Some(referent),
-            _ => unreachable!(),
-        }
-    }
-
-    /// A cleanable has done what it was for.
-    pub(crate) fn spend(&mut self)
-        requires { IsTrue (some_and is_cleanable (object_in self.old)) }
-        ensures new { object_in self.new ≡ option_map (with_cleanable spent) (object_in self.old) }
-        ensures kind { kind_in self.new ≡ kind_in self.old }
-    {
-        match self {
-            Cell::Cleanable(cleanable) => {
+        let Cell::Cleanable(cleanable) = self else {
+            unreachable!()
+        };
+        match change {
+            CleanChange::State(state) => cleanable.state = state,
+            CleanChange::NoReferent => cleanable.referent = None,
+            CleanChange::Referent(slot) => cleanable.referent = Some(slot),
+            CleanChange::Spent => {
                 cleanable.state = CleanState::Spent;
                 cleanable.referent = None;
             }
-            _ => unreachable!(),
         }
     }
 

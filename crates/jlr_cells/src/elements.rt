@@ -1,6 +1,6 @@
 //! The elements of an array.
-ghost use Rattle.std.specs.Prelude.{◌≡◌, ◌<◌, ◌≤◌, ℕ, Some, None, IfOk, drop, length, map, option_map, replicate};
-ghost use Rattle.std.specs.Prelude.{slice_get, slice_set, take};
+ghost use Rattle.std.specs.Prelude.{◌≡◌, ◌<◌, ◌≤◌, ℕ, Some, None, IfOk, length, map, option_map, replicate};
+ghost use Rattle.std.specs.Prelude.{slice_get, slice_set};
 ghost use Rattle.jlr_types.specs.declared.FieldValue.TheVariants.{Ref};
 ghost use Rattle.jlr_machine.specs.Objects.{at};
 ghost use Rattle.jlr_cells.specs.Nulls.{link_of};

@@ -13,6 +13,7 @@
 #![tactic(auto)]
 
 mod cell;
+mod change;
 mod columns;
 mod elements;
 mod fields;

@@ -1,5 +1,5 @@
 //! The cells, as they lie.
-ghost use Rattle.std.specs.Prelude.{◌≡◌, ◌⊎◌, ℕ, ◌+◌, ◌++◌, ◌∷◌, [], ◌^◌, ◌<◌, ◌↔◌, IfOk, IfNone, IfSome, IsNone};
+ghost use Rattle.std.specs.Prelude.{◌≡◌, ℕ, ◌+◌, ◌++◌, ◌∷◌, [], ◌^◌, ◌<◌, IfOk, IfSome};
 ghost use Rattle.std.specs.Prelude.{IsTrue, MatchOption, None, false, true, ◌≤◌, List, Some, cond, drop, is_some};
 ghost use Rattle.std.specs.Prelude.{length, option_and_then, option_map, replicate, slice_get, slice_set};
 ghost use Rattle.jlr_machine.specs.Objects.{◌∈◌, as_cleanable, as_guard, as_reference, at, change_at, empty_at};
@@ -10,17 +10,18 @@ ghost use Rattle.jlr_cells.specs.Showing.{shown};
 ghost use Rattle.jlr_machine.specs.Edges.{edges_from};
 ghost use Rattle.jlr_machine.specs.Edges.Chain.{Strong};
 ghost use Rattle.jlr_machine.specs.Objects.{with_cleanable, with_field, with_members, with_reference};
-ghost use Rattle.jlr_machine.specs.Refusals.{is_cleanable, is_guard, is_plain, is_queue, is_record, is_reference};
-ghost use Rattle.jlr_machine.specs.Calls.{spent, unreferred};
-ghost use Rattle.jlr_cells.specs.Contents.{field_at, is_array, is_ref, in_clean_state, in_state, kind_of, member_in};
-ghost use Rattle.jlr_cells.specs.Contents.{members_in, object_in, object_of, objects_in, referent_in, unregistered};
-ghost use Rattle.jlr_cells.specs.Contents.{watching, with_list, with_lists, cleanable_without_referent};
+ghost use Rattle.jlr_machine.specs.Refusals.{is_cleanable, is_plain, is_queue, is_record, is_reference};
+ghost use Rattle.jlr_cells.specs.Contents.{field_at, is_array, is_ref, kind_of, member_in};
+ghost use Rattle.jlr_cells.specs.Contents.{members_in, object_in, object_of, objects_in, referent_in};
+ghost use Rattle.jlr_cells.specs.Contents.{with_list, with_lists};
+ghost use Rattle.jlr_cells.specs.Changes.{altered_cleanable, altered_reference};
 ghost use Rattle.jlr_cells.specs.Links.{cell_links, linked, linked_in, no_links};
 ghost use Rattle.jlr_machine.specs.declared.object.Object.TheVariants.{Plain};
 ghost use Rattle.jlr_machine.specs.declared.object.Contents.TheVariants.{Elements as ElementsOf};
 ghost use Rattle.jlr_cells.specs.Visits.{edges_told, elements_lent, elements_of};
 
 use crate::cell::Cell;
+use crate::change::{CleanChange, RefChange};
 use crate::columns::Columns;
 use crate::elements::Elements;
 use crate::kinds::Kinds;
@@ -28,7 +29,7 @@ use crate::links::{Links, Visited, target_of};
 use crate::shape::{Kind, Shape};
 use jlr_links::Links as Lists;
 use jlr_links::column::Column;
-use jlr_machine::object::{CleanState, Cleanable, Guard, Object, RefState, Reference};
+use jlr_machine::object::{Cleanable, Guard, Object, Reference};
 use jlr_machine::table::Table;
 use jlr_sets::cell_set::CellSet;
 use jlr_types::{FieldValue, Meter, Slot};
@@ -282,31 +283,14 @@ impl Store {
         }
     }
 
-    /// The reference at a slot loses its referent.
-    pub fn clear_referent(&mut self, slot: Slot)
+    /// Something changes in the reference at a slot.
+    #[inline(always)]
+    pub(crate) fn change_reference(&mut self, slot: Slot, change: RefChange)
         requires { IsTrue (some_and is_reference (at self.old slot)) }
-        ensures { self.new ≡ change_at self.old slot (with_reference unreferred) }
+        ensures { self.new ≡ change_at self.old slot (with_reference (altered_reference change)) }
     {
         let cell = &mut self.cells[slot.number() as usize];
-        cell.clear_referent();
-    }
-
-    /// The reference at a slot comes into another state.
-    pub fn set_state(&mut self, slot: Slot, state: RefState)
-        requires { IsTrue (some_and is_reference (at self.old slot)) }
-        ensures { self.new ≡ change_at self.old slot (with_reference (in_state state)) }
-    {
-        let cell = &mut self.cells[slot.number() as usize];
-        cell.set_state(state);
-    }
-
-    /// The reference at a slot is registered with no queue any more.
-    pub fn cut_queue(&mut self, slot: Slot)
-        requires { IsTrue (some_and is_reference (at self.old slot)) }
-        ensures { self.new ≡ change_at self.old slot (with_reference unregistered) }
-    {
-        let cell = &mut self.cells[slot.number() as usize];
-        cell.cut_queue();
+        cell.change_reference(change);
     }
 
     /// The cleanable at a slot, if there is one.
@@ -329,40 +313,14 @@ impl Store {
         }
     }
 
-    /// The cleanable at a slot comes into another state.
-    pub fn set_clean_state(&mut self, slot: Slot, state: CleanState)
+    /// Something changes in the cleanable at a slot.
+    #[inline(always)]
+    pub(crate) fn change_cleanable(&mut self, slot: Slot, change: CleanChange)
         requires { IsTrue (some_and is_cleanable (at self.old slot)) }
-        ensures { self.new ≡ change_at self.old slot (with_cleanable (in_clean_state state)) }
+        ensures { self.new ≡ change_at self.old slot (with_cleanable (altered_cleanable change)) }
     {
         let cell = &mut self.cells[slot.number() as usize];
-        cell.set_clean_state(state);
-    }
-
-    /// The cleanable at a slot loses its referent.
-    pub fn clear_cleanable(&mut self, slot: Slot)
-        requires { IsTrue (some_and is_cleanable (at self.old slot)) }
-        ensures { self.new ≡ change_at self.old slot (with_cleanable cleanable_without_referent) }
-    {
-        let cell = &mut self.cells[slot.number() as usize];
-        cell.clear_cleanable();
-    }
-
-    /// The cleanable at a slot waits for an object from now on.
-    pub fn watch(&mut self, slot: Slot, referent: Slot)
-        requires { IsTrue (some_and is_cleanable (at self.old slot)) }
-        ensures { self.new ≡ change_at self.old slot (with_cleanable (watching referent)) }
-    {
-        let cell = &mut self.cells[slot.number() as usize];
-        cell.watch(referent);
-    }
-
-    /// The cleanable at a slot has done what it was for: it is spent, and has no referent any more.
-    pub fn spend(&mut self, slot: Slot)
-        requires { IsTrue (some_and is_cleanable (at self.old slot)) }
-        ensures { self.new ≡ change_at self.old slot (with_cleanable spent) }
-    {
-        let cell = &mut self.cells[slot.number() as usize];
-        cell.spend();
+        cell.change_cleanable(change);
     }
 
     /// How many members the queue at a slot has; 0, if there is no queue.

@@ -7,7 +7,7 @@ ghost use Rattle.jlr_machine.specs.declared.object.CleanState.TheVariants as sta
 ghost use Rattle.jlr_machine.specs.Objects.{at, some_and, is_cleaner};
 ghost use Rattle.jlr_machine.specs.Lookups.{has_free_handle, job_of, on, slot_named};
 ghost use Rattle.jlr_machine.specs.Refusals.{has_call, is_cleanable, is_joined, refusal};
-ghost use Rattle.jlr_machine.specs.Calls.{cleaned, finished, outcome_answer};
+ghost use Rattle.jlr_machine.specs.Calls.{finished, outcome_answer};
 ghost use Rattle.jlr_cleaner.specs.Jobs.{is_job_of};
 ghost use Rattle.jlr_machine.specs.Run.{no_choice};
 ghost use Rattle.jlr_machine.specs.Choices.{nothing_chosen};

@@ -1,11 +1,11 @@
 //! Jobs that a mutator takes up, and the numbers of actions.
-ghost use Rattle.std.specs.Prelude.{◌≡◌, ◌≢◌, ◌-◌, ◌^◌, None, Some, not, nat_le};
+ghost use Rattle.std.specs.Prelude.{◌≡◌, ◌≢◌, ◌-◌, ◌^◌, None, Some, nat_le};
 ghost use Rattle.jlr_machine.specs.declared.object.Cleanable.{Cleanable};
 ghost use Rattle.jlr_machine.specs.declared.object.Object.TheVariants as object;
 ghost use Rattle.jlr_machine.specs.declared.object.CleanState.TheVariants as state;
 ghost use Rattle.jlr_machine.specs.declared.machine.ResourceState.TheVariants.{Idle};
 ghost use Rattle.jlr_machine.specs.Objects.{at};
-ghost use Rattle.jlr_machine.specs.Lookups.{cleanable_at, on};
+ghost use Rattle.jlr_machine.specs.Lookups.{cleanable_at};
 ghost use Rattle.jlr_machine.specs.Calls.{cleaned, take_up_answer, taken_up};
 ghost use Rattle.jlr_machine.specs.WellFormed.{IsWellFormed};
 ghost use Rattle.jlr_cleaner.specs.Cleanings.{HandsOut, HasWork};

@@ -3,7 +3,6 @@ ghost use Rattle.jlr_state.specs.State.{Checks};
 ghost use Rattle.std.specs.Prelude.{◌≡◌, ◌≤◌, [], None, Some, Ok, Err, MatchResult, IfOk, replicate, true, false, not};
 ghost use Rattle.std.specs.Prelude.{is_none, is_some, ◌&&◌, ◌==◌, OnOk, IsTrue};
 ghost use Rattle.jlr_machine.specs.WellFormed.{IsWellFormed};
-ghost use Rattle.jlr_machine.specs.Objects.{at};
 ghost use Rattle.jlr_machine.specs.Lookups.{slot_named, object_named, has_free_handle};
 ghost use Rattle.jlr_machine.specs.Refusals.{is_joined, has_call};
 ghost use Rattle.jlr_machine.specs.Run.{empty_from};

@@ -1,8 +1,8 @@
 //! The objects of the heap, in cells.
 ghost use Rattle.std.specs.Prelude.{◌≡◌, ℕ, ◌+◌, ◌-◌, ◌==◌, cond, ◌++◌, ◌∷◌, [], ◌^◌, ◌<◌, ◌↔◌, IfErr, IfOk, IfNone};
 ghost use Rattle.std.specs.Prelude.{IfSome, IsErr, IsNone, IsTrue, MatchOption, None, false, ◌≤◌, List, Some, drop};
-ghost use Rattle.std.specs.Prelude.{is_some, length, option_and_then, option_map, replicate, slice_get, true};
-ghost use Rattle.jlr_machine.specs.Objects.{◌∈◌, as_cleanable, as_guard, as_reference, at, change_at, empty_at};
+ghost use Rattle.std.specs.Prelude.{is_some, length, option_and_then, option_map, slice_get, true};
+ghost use Rattle.jlr_machine.specs.Objects.{◌∈◌, as_cleanable, as_guard, as_reference, at, change_at};
 ghost use Rattle.jlr_machine.specs.Objects.{is_cleaner, occupied, set_at, some_and};
 ghost use Rattle.jlr_machine.specs.Edges.{edges_from};
 ghost use Rattle.jlr_machine.specs.Edges.Chain.{Strong};
@@ -13,12 +13,14 @@ ghost use Rattle.jlr_cells.specs.Contents.{field_at, is_ref, in_clean_state, in_
 ghost use Rattle.jlr_cells.specs.Contents.{object_of, referent_in, unregistered, watching, cleanable_without_referent};
 ghost use Rattle.jlr_machine.specs.declared.object.Object.TheVariants.{Plain};
 ghost use Rattle.jlr_machine.specs.declared.object.Contents.TheVariants.{Elements as ElementsOf};
-ghost use Rattle.jlr_cells.specs.Links.{linked, linked_in, no_links};
+ghost use Rattle.jlr_cells.specs.Changes.{altered_cleanable, altered_reference};
+ghost use Rattle.jlr_cells.specs.Links.{linked, linked_in};
 ghost use Rattle.jlr_cells.specs.Visits.{edges_told, elements_lent, elements_of};
 ghost use Rattle.jlr_sets.specs.SlotSets.{is_in};
 ghost use Rattle.jlr_cells.specs.Showing.{shown};
 ghost use Rattle.jlr_cells.specs.Holding.{all_free, cells_in_use};
 
+use crate::change::{CleanChange, RefChange};
 use crate::objects::arrays::{free_array, free_arrays};
 use crate::objects::lists::clear_lists;
 use crate::objects::occupancy::Occupancy;
@@ -331,7 +333,7 @@ impl Objects {
         ensures objects { self.new.objects ≡ change_at self.old.objects slot (with_reference unreferred) }
         ensures condemned { self.new.condemned ≡ self.old.condemned }
     {
-        self.store.clear_referent(slot);
+        self.change_reference(slot, RefChange::NoReferent);
     }
 
     /// The reference at a slot comes into another state.
@@ -340,7 +342,7 @@ impl Objects {
         ensures objects { self.new.objects ≡ change_at self.old.objects slot (with_reference (in_state state)) }
         ensures condemned { self.new.condemned ≡ self.old.condemned }
     {
-        self.store.set_state(slot, state);
+        self.change_reference(slot, RefChange::State(state));
     }
 
     /// The reference at a slot is registered with no queue any more.
@@ -349,7 +351,18 @@ impl Objects {
         ensures objects { self.new.objects ≡ change_at self.old.objects slot (with_reference unregistered) }
         ensures condemned { self.new.condemned ≡ self.old.condemned }
     {
-        self.store.cut_queue(slot);
+        self.change_reference(slot, RefChange::NoQueue);
+    }
+
+    /// Something changes in the reference at a slot.
+    #[inline(always)]
+    fn change_reference(&mut self, slot: Slot, change: RefChange)
+        requires { IsTrue (some_and is_reference (at self.old.objects slot)) }
+        ensures objects { self.new.objects
+            ≡ change_at self.old.objects slot (with_reference (altered_reference change)) }
+        ensures condemned { self.new.condemned ≡ self.old.condemned }
+    {
+        self.store.change_reference(slot, change);
     }
 
     /// The cleanable at a slot, if there is one.
@@ -378,7 +391,7 @@ impl Objects {
         ensures objects { self.new.objects ≡ change_at self.old.objects slot (with_cleanable (in_clean_state state)) }
         ensures condemned { self.new.condemned ≡ self.old.condemned }
     {
-        self.store.set_clean_state(slot, state);
+        self.change_cleanable(slot, CleanChange::State(state));
     }
 
     /// The cleanable at a slot loses its referent.
@@ -388,7 +401,7 @@ impl Objects {
             ≡ change_at self.old.objects slot (with_cleanable cleanable_without_referent) }
         ensures condemned { self.new.condemned ≡ self.old.condemned }
     {
-        self.store.clear_cleanable(slot);
+        self.change_cleanable(slot, CleanChange::NoReferent);
     }
 
     /// The cleanable at a slot waits for an object from now on.
@@ -397,7 +410,7 @@ impl Objects {
         ensures objects { self.new.objects ≡ change_at self.old.objects slot (with_cleanable (watching referent)) }
         ensures condemned { self.new.condemned ≡ self.old.condemned }
     {
-        self.store.watch(slot, referent);
+        self.change_cleanable(slot, CleanChange::Referent(referent));
     }
 
     /// The cleanable at a slot has done what it was for: it is spent, and has no referent any more.
@@ -406,7 +419,18 @@ impl Objects {
         ensures objects { self.new.objects ≡ change_at self.old.objects slot (with_cleanable spent) }
         ensures condemned { self.new.condemned ≡ self.old.condemned }
     {
-        self.store.spend(slot);
+        self.change_cleanable(slot, CleanChange::Spent);
+    }
+
+    /// Something changes in the cleanable at a slot.
+    #[inline(always)]
+    fn change_cleanable(&mut self, slot: Slot, change: CleanChange)
+        requires { IsTrue (some_and is_cleanable (at self.old.objects slot)) }
+        ensures objects { self.new.objects
+            ≡ change_at self.old.objects slot (with_cleanable (altered_cleanable change)) }
+        ensures condemned { self.new.condemned ≡ self.old.condemned }
+    {
+        self.store.change_cleanable(slot, change);
     }
 
     /// How many members the queue at a slot has; 0, if there is no queue.

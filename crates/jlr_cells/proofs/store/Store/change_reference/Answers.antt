@@ -1,11 +1,11 @@
 use Rattle.std.proofs.Common.{◌<◌, arith, length, refl}
 use Rattle.jlr_machine.specs.Objects.{some_and, with_reference}
 use Rattle.jlr_machine.specs.Refusals.{is_reference}
-use Rattle.jlr_cells.specs.Contents.{in_state}
+use Rattle.jlr_cells.specs.Changes.{altered_reference}
 use Rattle.jlr_cells.proofs.Slots.{object_of_reference}
 use Rattle.jlr_cells.proofs.ByKind.{kept_reference}
 use Rattle.jlr_cells.proofs.Queues.{reference_leaves, changed_at, holds_in, within}
-use Rattle.jlr_cells.proofs.store.Store.set_state.Goals as goal
+use Rattle.jlr_cells.proofs.store.Store.change_reference.Goals as goal
 
 pub index_mut-cell-requires : goal.index_mut-cell-requires
 index_mut-cell-requires c = omega (
@@ -14,8 +14,8 @@ index_mut-cell-requires c = omega (
       c.number.ensures (object_of_reference _ c.requires),
 )
 
-pub set_state-requires : goal.set_state-requires
-set_state-requires c =
+pub change_reference-requires : goal.change_reference-requires
+change_reference-requires c =
     let below : c.number.result < length c.self.inside.cells =
     within c.self.inside.cells c.self.inside.queues.lists c.args.self.now c.self.view_is _ _ c.number.ensures
     (object_of_reference _ c.requires) in
@@ -25,8 +25,8 @@ set_state-requires c =
 pub invariant_of-self : goal.invariant_of-self
 invariant_of-self c =
     record {
-      kept = kept_reference _ _ _ _ c.index_mut-cell.result.now _ (in_state c.args.state) c.self.invariant.kept
-          c.index_mut-cell.ensures.value c.set_state.ensures.new c.set_state.ensures.kind;
+      kept = kept_reference _ _ _ _ c.index_mut-cell.result.now _ (altered_reference c.args.change) c.self.invariant.kept
+          c.index_mut-cell.ensures.value c.change_reference.ensures.new c.change_reference.ensures.kind;
       members = c.self.invariant.members;
     }
 
@@ -36,5 +36,5 @@ returns c =
     within c.self.inside.cells c.self.inside.queues.lists c.args.self.now c.self.view_is _ _ c.number.ensures
     (object_of_reference _ c.requires) in
     changed_at c.self.inside.cells c.self.inside.queues.lists c.args.self.now c.self.view_is _ _ c.index_mut-cell.result.now _
-    (with_reference (in_state c.args.state)) c.number.ensures below c.index_mut-cell.ensures.value c.set_state.ensures.new
-    (reference_leaves (in_state c.args.state))
+    (with_reference (altered_reference c.args.change)) c.number.ensures below c.index_mut-cell.ensures.value c.change_reference.ensures.new
+    (reference_leaves (altered_reference c.args.change))
