@@ -1,6 +1,6 @@
 //! The audit of a trace file as it is read: each entry is judged and let go before the next. After the first one that
 //! is not legal the others are read for their faults alone.
-ghost use Rattle.std.specs.Prelude.{◌≡◌, ◌+◌, ℕ, List, [], suc, IfOk, IfErr, OnOk, MatchOption};
+ghost use Rattle.std.specs.Prelude.{◌≡◌, ◌+◌, List, [], IfOk, IfErr, OnOk, MatchOption};
 ghost use Rattle.jlr_audit.specs.declared.verdict.Verdict.TheVariants.{Illegal};
 ghost use Rattle.jlr_audit.specs.Streams.{AreComing, IsStreamVerdict, IsOnlyVerdict};
 ghost use Rattle.jlr_machine.specs.declared.entry.Entry.{Entry as EntryOf};

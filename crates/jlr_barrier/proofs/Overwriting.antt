@@ -1,7 +1,7 @@
 -- A field is overwritten.
-use Rattle.std.proofs.Common.{◌≡◌, ◌≤◌, ◌<◌, ℕ, zero, suc, ◌⊎◌, inl, inr, Bool, true, false, cond, IsTrue, List, [], ◌∷◌, ◌++◌, Option}
+use Rattle.std.proofs.Common.{◌≡◌, ℕ, zero, suc, ◌⊎◌, inl, inr, false, IsTrue, List, [], ◌∷◌, Option}
 use Rattle.std.proofs.Common.{Some, None, length, filter_map, slice_set, slice_get, is_some, option_map, option_and_then, refl, sym, subst}
-use Rattle.std.proofs.Common.{arith, ap, ◌∙◌, drop, length-set}
+use Rattle.std.proofs.Common.{ap, ◌∙◌, drop, length-set}
 use Rattle.std.specs.List.{cons_option}
 use Rattle.std.proofs.lemmas.Bool.{both_ways}
 use Rattle.jlr_types.specs.declared.FieldValue.{FieldValue}

@@ -1,15 +1,15 @@
 //! The heap, its objects and their fields.
-ghost use Rattle.std.specs.Prelude.{◌≡◌, ℕ, ◌+◌, ◌-◌, ◌==◌, cond, ◌++◌, ◌<◌, ◌≤◌, ◌↔◌, [], option_to_list, IfErr};
+ghost use Rattle.std.specs.Prelude.{◌≡◌, ℕ, ◌+◌, ◌-◌, ◌==◌, cond, ◌++◌, ◌<◌, ◌≤◌, ◌↔◌, option_to_list, IfErr};
 ghost use Rattle.std.specs.Prelude.{IfNone, IfOk, IfSome, IsErr, IsNone, IsTrue, None, Some, false, is_some, length};
 ghost use Rattle.std.specs.Prelude.{option_and_then, option_map};
-ghost use Rattle.jlr_machine.specs.Objects.{◌∈◌, any_referent, as_reference, at, change_at, empty_at, occupied, set_at};
+ghost use Rattle.jlr_machine.specs.Objects.{◌∈◌, any_referent, as_reference, at, change_at, occupied, set_at};
 ghost use Rattle.jlr_machine.specs.Objects.{some_and, with_field};
 ghost use Rattle.jlr_machine.specs.Refusals.{is_plain, is_queue, is_record, is_reference};
 ghost use Rattle.jlr_cells.specs.Contents.{field_at, is_ref, kind_of, object_of, referent_in};
 ghost use Rattle.jlr_machine.specs.Edges.{slots_in, strong_edges};
 ghost use Rattle.jlr_machine.specs.declared.object.Object.TheVariants.{Plain};
 ghost use Rattle.jlr_machine.specs.declared.object.Contents.TheVariants.{Elements as ElementsOf};
-ghost use Rattle.jlr_marks.specs.Marking.{Blackened, IsMarked, Shaded, marked};
+ghost use Rattle.jlr_marks.specs.Marking.{Blackened, Shaded, marked};
 ghost use Rattle.jlr_barrier.specs.Graphs.{empty_known, in_use, made_now, with_objects};
 ghost use Rattle.jlr_barrier.specs.Snapshots.{IsInHand, IsObject};
 

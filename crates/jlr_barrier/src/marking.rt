@@ -1,5 +1,5 @@
 //! The mark set, as a collector uses it.
-ghost use Rattle.std.specs.Prelude.{◌≡◌, ◌↔◌, ℕ, IfSome, ◌+◌, ◌^◌, ◌<◌, ◌≤◌, [], IsTrue, Some, false, is_some, length};
+ghost use Rattle.std.specs.Prelude.{◌≡◌, ◌↔◌, ℕ, IfSome, ◌+◌, ◌^◌, ◌<◌, ◌≤◌, [], Some, false, length};
 ghost use Rattle.std.specs.Prelude.{option_and_then, slice_get};
 ghost use Rattle.jlr_types.specs.declared.RefKind.TheVariants.{Soft};
 ghost use Rattle.jlr_machine.specs.Choices.{collecting, kept_by, pended_by};

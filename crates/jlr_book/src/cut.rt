@@ -1,5 +1,5 @@
 //! What a cut does to the trace and the core.
-ghost use Rattle.std.specs.Prelude.{◌≡◌, ◌≤◌, ◌<◌, ◌+◌, ◌^◌, true, false, cond, [], length, None, Some};
+ghost use Rattle.std.specs.Prelude.{◌≡◌, ◌≤◌, ◌<◌, ◌+◌, ◌^◌, true, false, cond, [], length, None};
 ghost use Rattle.std.specs.Prelude.{IfOk, OnOk, OnErr, vec_len, vec_capacity};
 ghost use Rattle.jlr_core.specs.Steps.{Steps};
 ghost use Rattle.jlr_machine.specs.WellFormed.{IsImage};

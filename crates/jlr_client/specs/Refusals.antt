@@ -1,5 +1,5 @@
 -- What commands may be refused: what their first asks are.
-use Rattle.std.specs.Prelude.{ℕ, pos, List, []}
+use Rattle.std.specs.Prelude.{pos, List, []}
 use Rattle.jlr_types.specs.declared.Refusal.{Refusal}
 use Rattle.jlr_types.specs.declared.RefKind.TheVariants as kind
 use Rattle.jlr_machine.specs.declared.ask.FullMode.TheVariants.{Policy, ClearAll}

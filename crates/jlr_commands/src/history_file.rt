@@ -1,5 +1,5 @@
 //! The file of a saved history.
-ghost use Rattle.std.specs.Prelude.{◌≡◌, IfErr};
+ghost use Rattle.std.specs.Prelude.{◌≡◌};
 ghost use Rattle.jlr_commands.specs.Audits.{TellsStreamFault, IsUnread, damage};
 
 use jlr_command_line::fault::ProgramFault;

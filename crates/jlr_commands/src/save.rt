@@ -5,7 +5,6 @@ ghost use Rattle.jlr_prog.specs.Books.{History};
 ghost use Rattle.jlr_prog.specs.Histories.{IsWholeSession};
 ghost use Rattle.jlr_commands.specs.Saving.{IsSaved};
 ghost use Rattle.jlr_session.specs.Limits.{FindsEnd, most_bytes};
-ghost use Rattle.jlr_session.specs.declared.shell.SessionEnd.{SessionEnd as SessionEndOf};
 
 use crate::saved_file::{put, try_put};
 use crate::saving::file::trace_bytes_of;

@@ -1,11 +1,11 @@
 //! A session, and what it leaves of the program.
-ghost use Rattle.std.specs.Prelude.{◌≡◌, ◌≤◌, ◌⊎◌, List, ℕ, length, MatchResult, None, Some};
+ghost use Rattle.std.specs.Prelude.{◌≡◌, ◌≤◌, ◌⊎◌, List, ℕ, length};
 ghost use Rattle.std.specs.Io.KnownBytes.{Appends, Consumes};
 ghost use Rattle.jlr_prog.specs.Books.{History};
 ghost use Rattle.jlr_prog.specs.Histories.{IsWholeSession};
 ghost use Rattle.jlr_session.specs.Limits.{FindsEnd, most_bytes};
 ghost use Rattle.jlr_session.specs.declared.shell.SessionEnd.{SessionEnd};
-ghost use Rattle.jlr_commands.specs.Ends.{SessionOutOfMemory, IsOutcome, fault_after};
+ghost use Rattle.jlr_commands.specs.Ends.{SessionOutOfMemory, IsOutcome};
 
 use jlr_command_line::fault::ProgramFault;
 use jlr_device::Device;

@@ -1,6 +1,6 @@
 //! The calls of devices and resources for a caller that does not know whether the count of failures still fits: where
 //! it is at its last value, 2^64 - 1, no call is made, and the answer is `Other`.
-ghost use Rattle.std.specs.Prelude.{◌≡◌, ◌+◌, ◌^◌, ◌<◌, ◌≤◌, ◌⊎◌, Err, length, IfOk};
+ghost use Rattle.std.specs.Prelude.{◌≡◌, ◌+◌, ◌<◌, ◌≤◌, ◌⊎◌, Err, length, IfOk};
 ghost use Rattle.jlr_types.specs.declared.Fault.TheVariants as fault;
 ghost use Rattle.jlr_device.specs.Failures.{Counts, CountsOneMore, IsHighest};
 

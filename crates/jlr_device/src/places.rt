@@ -7,7 +7,7 @@ use std::os::unix::fs::MetadataExt;
 /// What is told of a path before a call is made with it. Where others change folders meanwhile, the call may find
 /// another thing there.
 pub trait Places {
-    ghost use Rattle.std.specs.Prelude.{ℕ, Bool, List, length};
+    ghost use Rattle.std.specs.Prelude.{ℕ, Bool, List};
 
     // what may be told of links on a path: the path, how many bytes of it are the folder below which they count, and
     // the answer

@@ -13,7 +13,7 @@ pub struct Finished {
 
 /// An open file or a connected socket. It sees reads and writes, then at most one `finish`, then nothing.
 pub trait Resource {
-    ghost use Rattle.std.specs.Prelude.{◌≡◌, ℕ, ◌+◌, ◌^◌, ◌<◌, ◌≤◌, List, Result, length, IfOk};
+    ghost use Rattle.std.specs.Prelude.{◌≡◌, ◌+◌, ◌^◌, ◌<◌, ◌≤◌, Result, length, IfOk};
     ghost use Rattle.jlr_types.specs.declared.Fault.{Fault};
     ghost use Rattle.jlr_device.specs.Failures.{Counts};
     ghost use Rattle.jlr_device.specs.Handling.{Handling};

@@ -1,5 +1,5 @@
 //! Opening a hall, and closing it.
-ghost use Rattle.std.specs.Prelude.{◌≡◌, ℕ, ◌+◌, ◌<◌, ◌↔◌, IsTrue, true, IfOk, IfErr, IfNone, IfSome, [], None, Ok};
+ghost use Rattle.std.specs.Prelude.{◌≡◌, ℕ, ◌+◌, ◌<◌, true, IfOk, IfErr, IfNone, IfSome, [], None, Ok};
 ghost use Rattle.std.specs.Prelude.{length, slice_index_or};
 ghost use Rattle.jlr_log.specs.Seeing.{Seen, seen};
 ghost use Rattle.jlr_hall.specs.declared.step.Step.{Step};

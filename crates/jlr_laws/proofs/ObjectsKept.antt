@@ -1,11 +1,10 @@
 -- Well-formedness survives one new object in place of none, or of another that is no cleanable and no guard.
 use Rattle.std.proofs.Common.{◌≡◌, ℕ, suc, ◌+◌, ◌<◌, Bool, cond, not, List, [], ◌∷◌, length, refl, sym, ◌∙◌, ap, subst, ◌⊎◌, inl, inr}
-use Rattle.std.proofs.Common.{arith, IsTrue, Option, Some, None, option_and_then, option_to_list, is_some, count_by, filter_map}
+use Rattle.std.proofs.Common.{arith, IsTrue, Option, Some, None, option_and_then, option_to_list, is_some, count_by}
 use Rattle.std.specs.List.{flat_map}
 use Rattle.std.proofs.lemmas.Bool.{cases_eq}
 use Rattle.std.proofs.lemmas.List.{length-set}
 use Rattle.std.proofs.lemmas.List.Sums.{sum_by-cons}
-use Rattle.jlr_types.specs.declared.FieldValue.{FieldValue}
 use Rattle.jlr_machine.specs.declared.object.Contents.{Contents}
 use Rattle.jlr_machine.specs.declared.object.Object.{Object}
 use Rattle.jlr_machine.specs.declared.object.Object.TheVariants.{Plain, Reference, Queue, Cleaner, Cleanable, Guard}

@@ -1,7 +1,7 @@
 //! Laws of the machine. Each function's contract is the law, and its body is empty.
 
 ghost use Rattle.jlr_machine.specs.Edges.{roots};
-ghost use Rattle.jlr_machine.specs.Run.{Run, IsLegal, empty_from};
+ghost use Rattle.jlr_machine.specs.Run.{empty_from};
 ghost use Rattle.jlr_machine.specs.WellFormed.{IsWellFormed, IsImage};
 ghost use Rattle.std.specs.Prelude.{ℕ, ◌≤◌};
 ghost use Rattle.jlr_machine.specs.declared.machine.Machine.{Machine};

@@ -1,6 +1,6 @@
 //! Lists of slots.
 ghost use Rattle.std.specs.Prelude.{◌≡◌, ℕ, ◌<◌, ◌++◌, ◌∷◌, ◌↔◌, [], List, IfOk, IsTrue, None, Some, drop, length};
-ghost use Rattle.std.specs.Prelude.{option_map, replicate, slice_get, slice_set};
+ghost use Rattle.std.specs.Prelude.{replicate, slice_get, slice_set};
 ghost use Rattle.jlr_machine.specs.Objects.{◌∈◌};
 ghost use Rattle.jlr_links.specs.Lists.{list_at};
 ghost use Rattle.jlr_links.specs.Walks.{AreLinked, ends_at, lists_in, members};

@@ -1,7 +1,7 @@
 //! The tokens, and the steps that change what they know.
-ghost use Rattle.std.specs.Prelude.{◌≡◌, ◌+◌, ◌<◌, ◌^◌, [], ◌++◌, IfOk};
+ghost use Rattle.std.specs.Prelude.{◌≡◌, ◌+◌, ◌<◌, [], ◌++◌};
 ghost use Rattle.atomic_table.specs.Seated.{TableId};
-ghost use Rattle.jlr_log.specs.Views.{own, knower};
+ghost use Rattle.jlr_log.specs.Views.{knower};
 ghost use Rattle.jlr_log.specs.Rule.{Knows};
 ghost use Rattle.jlr_log.specs.Seeing.{AllOf, seen, whole_history};
 

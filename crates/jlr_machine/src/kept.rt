@@ -1,5 +1,5 @@
 //! What a collection kept.
-ghost use Rattle.std.specs.Prelude.{◌≡◌, ◌≤◌, ◌++◌, [], IfOk, take, length};
+ghost use Rattle.std.specs.Prelude.{◌≡◌, ◌≤◌, ◌++◌, IfOk, take, length};
 ghost use Rattle.std.specs.List.{AllByRecursion};
 ghost use Rattle.jlr_sets.specs.SlotSets.{slots_of, IsSlotNumber, NoneFrom};
 

@@ -1,5 +1,5 @@
 //! Marks.
-ghost use Rattle.std.specs.Prelude.{◌≡◌, ◌↔◌, ℕ, ◌+◌, ◌^◌, ◌<◌, ◌≤◌, ◌++◌, ◌∷◌, [], false, true, cond, length, IfOk};
+ghost use Rattle.std.specs.Prelude.{◌≡◌, ◌↔◌, ◌+◌, ◌<◌, ◌≤◌, ◌++◌, ◌∷◌, [], false, true, cond, length, IfOk};
 ghost use Rattle.std.specs.Prelude.{slice_get, slice_set, IfNone, IfSome, IsPermutation, None, Some, replicate};
 ghost use Rattle.jlr_machine.specs.Choices.{collecting, kept_by, pended_by};
 ghost use Rattle.jlr_machine.specs.Objects.{◌∈◌};

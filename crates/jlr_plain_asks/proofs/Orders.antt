@@ -10,7 +10,6 @@ use Rattle.jlr_machine.specs.declared.object.Cleanable.{Cleanable as CleanableOf
 use Rattle.jlr_machine.specs.declared.machine.Machine.{Machine}
 use Rattle.jlr_machine.specs.declared.machine.ResourceState.{ResourceState}
 use Rattle.jlr_machine.specs.declared.machine.ResourceState.TheVariants.{Closing}
-use Rattle.jlr_machine.specs.declared.ask.Handed.TheVariants.{Lined}
 use Rattle.jlr_machine.specs.Objects.{Table, at, change_at, some_and, is_lined, as_reference, queue_ahead, with_reference}
 use Rattle.jlr_machine.specs.Lookups.{with_object, cleanable_at, rid_of}
 use Rattle.jlr_machine.specs.Calls.{to_queue, enqueued, taken_up, with_work_state, from_lined, line_taken}

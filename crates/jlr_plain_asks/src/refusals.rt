@@ -1,5 +1,5 @@
 //! Which asks are refused, and with which number.
-ghost use Rattle.std.specs.Prelude.{◌≡◌, ◌==◌, ◌&&◌, ◌||◌, Bool, not, ◌-◌, ◌^◌, is_none, option_and_then, find, length};
+ghost use Rattle.std.specs.Prelude.{◌≡◌, ◌==◌, ◌&&◌, ◌||◌, not, ◌-◌, ◌^◌, is_none, option_and_then, find, length};
 ghost use Rattle.std.specs.Prelude.{nat_lt, nat_le};
 ghost use Rattle.std.specs.List.{list_any};
 ghost use Rattle.jlr_types.specs.declared.Refusal.TheVariants.{NoHandle, HandlesFull, WrongKind, NoField, WrongType};
@@ -11,7 +11,7 @@ ghost use Rattle.jlr_machine.specs.Lookups.{has_free_handle};
 ghost use Rattle.jlr_machine.specs.Refusals.{is_in_flight, is_opening, is_out_call, is_out_state, is_joined, has_call};
 ghost use Rattle.jlr_machine.specs.Refusals.{names_no_object, is_wrongly_null, is_of_wrong_kind, is_closed};
 ghost use Rattle.jlr_machine.specs.Refusals.{guard_is_closed, is_out, resource_is_out, no_such_call, holds, asker};
-ghost use Rattle.jlr_machine.specs.Refusals.{operands, needs_handle, applies, listed, refusal};
+ghost use Rattle.jlr_machine.specs.Refusals.{operands, needs_handle, applies, refusal};
 ghost use Rattle.jlr_plain_asks.specs.Fits.{test_of, operand_of, operands_in};
 
 use crate::given::given_by;

@@ -1,5 +1,5 @@
 //! The roots of a machine, as a list.
-ghost use Rattle.std.specs.Prelude.{◌≡◌, ℕ, ◌≤◌, ◌^◌, ◌++◌, cond, map, List, [], ◌∷◌, Some, IfOk, OnOk, Option};
+ghost use Rattle.std.specs.Prelude.{◌≡◌, ◌≤◌, ◌^◌, ◌++◌, cond, map, [], ◌∷◌, Some, IfOk, OnOk, Option};
 ghost use Rattle.std.specs.Prelude.{option_to_list, filter_map, length};
 ghost use Rattle.std.specs.List.{flat_map};
 ghost use Rattle.jlr_machine.specs.declared.machine.Session.{Session as SessionOf};

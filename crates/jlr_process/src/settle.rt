@@ -1,14 +1,13 @@
 //! One place of the heap.
-ghost use Rattle.std.specs.Prelude.{◌≡◌, ℕ, ◌<◌, ◌++◌, ◌∷◌, [], IsTrue, Some, cond, length, option_and_then};
-ghost use Rattle.std.specs.Prelude.{option_map, slice_set};
+ghost use Rattle.std.specs.Prelude.{◌≡◌, ℕ, ◌<◌, ◌++◌, IsTrue, Some, length, option_and_then};
+ghost use Rattle.std.specs.Prelude.{option_map};
 ghost use Rattle.jlr_machine.specs.declared.object.Object.TheVariants as object;
 ghost use Rattle.jlr_machine.specs.Objects.{◌∈◌, any_referent, as_cleanable, as_reference, at};
 ghost use Rattle.jlr_cells.specs.Contents.{kind_of};
 ghost use Rattle.jlr_machine.specs.Collection.{is_ready};
 ghost use Rattle.jlr_machine.specs.Choices.{collecting, kept_by, pended_by};
 ghost use Rattle.jlr_marks.specs.Marking.{IsMarked, is_marked};
-ghost use Rattle.jlr_barrier.specs.Graphs.{with_objects};
-ghost use Rattle.jlr_process.specs.Settling.{cleared_graph, newly_pending, is_losing, kept_if_marked, loses, only_if};
+ghost use Rattle.jlr_process.specs.Settling.{cleared_graph, newly_pending, is_losing, loses, only_if};
 ghost use Rattle.jlr_process.specs.Settling.{with_settled};
 
 use jlr_barrier::Heap;

@@ -8,14 +8,14 @@
 //! | Pending | none | its own | the pending list | null | as it is | Queued, true; it stays on the pending list | | as it is | Queued |
 //! | Queued | none | none | its queue, perhaps still the pending list | null | as it is | false | Removed, from the front | as it is | skipped |
 //! | Removed | none | none | perhaps still the pending list | null | as it is | false | | as it is | skipped |
-ghost use Rattle.std.specs.Prelude.{◌≡◌, ℕ, ◌<◌, ◌↔◌, IfNone, IfSome, IsNone, IsTrue, None, Some, cond, is_some};
-ghost use Rattle.std.specs.Prelude.{length, nat_eq, option_and_then};
+ghost use Rattle.std.specs.Prelude.{◌≡◌, ℕ, ◌<◌, IsTrue, None, Some, cond, is_some};
+ghost use Rattle.std.specs.Prelude.{nat_eq, option_and_then};
 ghost use Rattle.std.specs.Option.{option_eq};
-ghost use Rattle.jlr_machine.specs.Objects.{as_members, at, change_at, is_queued, occupied, queue_ahead, set_at};
+ghost use Rattle.jlr_machine.specs.Objects.{as_members, at, change_at, is_queued, queue_ahead};
 ghost use Rattle.jlr_machine.specs.Objects.{some_and, with_reference};
 ghost use Rattle.jlr_machine.specs.Refusals.{front, is_queue, is_reference};
 ghost use Rattle.jlr_machine.specs.Calls.{may_enqueue, unreferred};
-ghost use Rattle.jlr_cells.specs.Contents.{next_in, object_of, referent_in};
+ghost use Rattle.jlr_cells.specs.Contents.{next_in, referent_in};
 ghost use Rattle.jlr_cells.specs.declared.shape.Shape.TheVariants as shape;
 ghost use Rattle.jlr_marks.specs.Marking.{Shaded};
 ghost use Rattle.jlr_barrier.specs.Graphs.{gotten_at, used_now, with_objects};

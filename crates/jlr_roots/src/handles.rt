@@ -1,5 +1,5 @@
 //! The handles of one mutator.
-ghost use Rattle.std.specs.Prelude.{◌≡◌, ◌+◌, ◌<◌, ◌≤◌, IfOk, IfNone, IfSome, IsTrue, None, drop, is_none, is_some};
+ghost use Rattle.std.specs.Prelude.{◌≡◌, ◌+◌, ◌<◌, ◌≤◌, IfOk, IfNone, IfSome, IsTrue, None, is_none, is_some};
 ghost use Rattle.std.specs.Prelude.{length, position, replicate};
 ghost use Rattle.jlr_machine.specs.Objects.{at, empty_at, set_at};
 ghost use Rattle.jlr_machine.specs.Calls.{no_handles};

@@ -1,7 +1,7 @@
 -- What another thread may be given.
-use Rattle.std.proofs.Common.{List, Option, Some, None, rules}
+use Rattle.std.proofs.Common.{List, Option, Some, None}
 use denote.RattleType.{RattleType}
-use denote.Param.Send.{IsSend, sendable}
+use denote.Param.Send.{IsSend}
 use base.Shift.{Keyless}
 use mir.Val.{Val}
 use Rattle.std.specs.contracts.option.Option as option

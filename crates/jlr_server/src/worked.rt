@@ -7,7 +7,7 @@ ghost use Rattle.jlr_session.specs.Serving.{Serves};
 ghost use Rattle.jlr_session.specs.declared.shell.SessionEnd.{SessionEnd};
 ghost use Rattle.jlr_log.specs.Seeing.{seen};
 ghost use Rattle.jlr_hall.specs.Ports.{by_seat};
-ghost use Rattle.jlr_server.specs.Serving.{IsUnasked, IsWork, Stays, accepts_of, next_of};
+ghost use Rattle.jlr_server.specs.Serving.{IsUnasked, IsWork, Stays, next_of};
 
 use crate::acceptor::{AcceptId, Acceptor, ClientVigil};
 use jlr_device::{Device, Resource};

@@ -1,6 +1,5 @@
 //! Calls of devices and of resources, and the events that tell their outcomes.
-ghost use Rattle.std.specs.Prelude.{◌≡◌, ◌≤◌, length, IfOk, Result};
-ghost use Rattle.jlr_types.specs.declared.Fault.{Fault};
+ghost use Rattle.std.specs.Prelude.{◌≤◌, length};
 ghost use Rattle.jlr_session.specs.Asks.{TellsOpened, TellsConnected, TellsRead, TellsWritten};
 ghost use Rattle.jlr_session.specs.Calls.{ReadsUpTo, Writes};
 

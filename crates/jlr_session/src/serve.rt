@@ -1,5 +1,5 @@
 //! A whole session over a port and a device.
-ghost use Rattle.std.specs.Prelude.{◌≡◌, ◌≤◌, ℕ, List, [], length};
+ghost use Rattle.std.specs.Prelude.{◌≡◌, ◌≤◌, ℕ, List, length};
 ghost use Rattle.std.specs.Io.KnownBytes.{Appends, Consumes};
 ghost use Rattle.jlr_machine.specs.declared.ask.Ask.TheVariants.{Join, Leave};
 ghost use Rattle.jlr_event.specs.declared.event.Event.TheVariants.{Ask as Asks};

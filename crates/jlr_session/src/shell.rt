@@ -1,5 +1,5 @@
 //! The lines of a session, from the first one to the end.
-ghost use Rattle.std.specs.Prelude.{ℕ, List, ◌≡◌, ◌≤◌, ◌<◌, IfNone, length};
+ghost use Rattle.std.specs.Prelude.{ℕ, List, ◌≤◌, ◌<◌, IfNone, length};
 ghost use Rattle.std.specs.Io.KnownBytes.{Appends, Consumes};
 ghost use Rattle.jlr_session.specs.Limits.{FindsEnd, most_lines, most_bytes};
 ghost use Rattle.jlr_session.specs.Sessions.{Ended};

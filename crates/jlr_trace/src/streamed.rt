@@ -1,5 +1,5 @@
 //! A trace file that is read as it comes: its image, and then its entries one at a time.
-ghost use Rattle.std.specs.Prelude.{◌≡◌, ◌+◌, ◌-◌, ◌<◌, ◌≤◌, ◌^◌, [], option_map, length, drop, IfOk, IfErr, OnOk};
+ghost use Rattle.std.specs.Prelude.{◌≡◌, ◌+◌, ◌-◌, ◌<◌, ◌≤◌, ◌^◌, option_map, length, drop, IfOk, IfErr, OnOk};
 ghost use Rattle.std.specs.Io.KnownBytes.{Keeps, IsAtEnd};
 ghost use Rattle.jlr_trace_entries.specs.Entries.{entry_read};
 ghost use Rattle.jlr_trace_entries.specs.Images.{image_text, whole_image, HasShape};

@@ -1,5 +1,5 @@
 //! A stream of bytes: those that were read and not yet used lie in a row.
-ghost use Rattle.std.specs.Prelude.{◌≡◌, ◌≢◌, ◌≤◌, ◌<◌, ◌++◌, [], false, length, drop, take, IfOk, IfErr, OnOk};
+ghost use Rattle.std.specs.Prelude.{◌≡◌, ◌≤◌, ◌<◌, [], length, drop, take, IfOk, IfErr};
 ghost use Rattle.std.specs.Io.KnownBytes.{Consumes, IsAtEnd};
 ghost use Rattle.jlr_trace_fields.specs.Spelling.{IsBytes};
 ghost use Rattle.jlr_trace.specs.Streams.{HeldBytes, Fills, MoreIsRead, IsOutside};

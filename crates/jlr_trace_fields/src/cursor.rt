@@ -1,5 +1,5 @@
 //! Takes fields from the front of the bytes: the bytes are then what is left. After a fault they are not to be used.
-ghost use Rattle.std.specs.Prelude.{◌≡◌, ◌≤◌, ◌<◌, IfOk};
+ghost use Rattle.std.specs.Prelude.{◌≤◌, ◌<◌, IfOk};
 ghost use Rattle.std.specs.Int.{w16, w32, w64};
 ghost use Rattle.jlr_trace_fields.specs.Reading.{Reads, byte_at, number_at, number_within_at, signed_at};
 ghost use Rattle.jlr_trace_fields.specs.Reading.{byte_within_at};

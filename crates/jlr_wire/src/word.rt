@@ -1,7 +1,5 @@
 //! The words of a line that are no numbers: modes, names and bytes in hexadecimal digits.
 ghost use Rattle.std.specs.Prelude.{◌≡◌};
-ghost use Rattle.std.specs.List.{list_all};
-ghost use Rattle.jlr_wire.specs.Texts.{is_name_char};
 ghost use Rattle.jlr_wire.specs.Fields.{mode_of, name_of, data_of};
 
 use jlr_device::Mode;

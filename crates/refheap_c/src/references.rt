@@ -1,5 +1,4 @@
 //! Soft, weak and phantom references, and their queues.
-ghost use Rattle.std.specs.Prelude.{◌≡◌};
 ghost use Rattle.jlr_embed.specs.Ways.{EndsOnly, GivesHandle, GivesTruth};
 
 use jlr_embed::handle::{Heap, calls};

@@ -1,5 +1,4 @@
 //! Which rule an entry breaks.
-ghost use Rattle.std.specs.Prelude.{◌≡◌, IfOk};
 ghost use Rattle.jlr_machine.specs.WellFormed.{IsWellFormed};
 
 use crate::explain::asks::answer_said;

@@ -1,5 +1,4 @@
 //! The cells of an empty machine, made in pieces.
-ghost use Rattle.std.specs.Prelude.{◌≡◌};
 ghost use Rattle.jlr_book.specs.ImageKeeping.{AreEmptyCells};
 
 use jlr_machine::object::Object;

@@ -1,5 +1,5 @@
 //! A machine that follows entries.
-ghost use Rattle.std.specs.Prelude.{◌≡◌, ◌+◌, ◌<◌, [], length, drop, OnOk, OnErr};
+ghost use Rattle.std.specs.Prelude.{◌≡◌, ◌+◌, ◌<◌, length, drop, OnOk, OnErr};
 ghost use Rattle.jlr_book.specs.Led.{led, LeadsOn};
 
 use jlr_machine::ask::Ask;

@@ -4,7 +4,7 @@ ghost use Rattle.jlr_machine.specs.declared.machine.Machine.{Machine as MachineO
 ghost use Rattle.jlr_machine.specs.Run.{Run, empty};
 ghost use Rattle.jlr_machine.specs.WellFormed.{IsImage, IsWellFormed};
 ghost use Rattle.jlr_plain.specs.Unseen.{unseen};
-ghost use Rattle.jlr_book.specs.Led.{with_cycle_closed, shut, LeadsOn};
+ghost use Rattle.jlr_book.specs.Led.{with_cycle_closed, shut};
 ghost use Rattle.jlr_book.specs.ImageKeeping.{kept_from};
 
 use crate::image::cells::add_cells;

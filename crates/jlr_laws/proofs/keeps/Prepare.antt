@@ -3,7 +3,6 @@ use Rattle.std.proofs.Common.{◌≡◌, ℕ, ◌+◌, ◌<◌, ◌≤◌, true,
 use Rattle.std.proofs.Common.{arith, Option, Some, None, is_some, IsTrue, option_and_then, option_to_list, count_by, nat_lt, if◌then◌else◌}
 use Rattle.std.specs.List.{flat_map}
 use Rattle.std.proofs.lemmas.Bool.{cases_eq, both_ways}
-use Rattle.jlr_types.specs.declared.FieldValue.{FieldValue}
 use Rattle.jlr_types.specs.declared.Work.TheVariants.{Resource as WorkOn}
 use Rattle.jlr_types.specs.declared.Refusal.TheVariants.{Busy, HandlesFull, NoSession}
 use Rattle.jlr_machine.specs.declared.object.Contents.{Contents}

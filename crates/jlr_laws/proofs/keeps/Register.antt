@@ -3,7 +3,6 @@ use Rattle.std.proofs.Common.{◌≡◌, ℕ, ◌+◌, ◌<◌, Bool, true, fals
 use Rattle.std.proofs.Common.{arith, Option, Some, None, is_some, IsTrue, option_and_then, option_to_list, count_by}
 use Rattle.std.specs.List.{flat_map}
 use Rattle.std.proofs.lemmas.Bool.{cases_eq, or_parts}
-use Rattle.jlr_types.specs.declared.FieldValue.{FieldValue}
 use Rattle.jlr_types.specs.declared.Work.TheVariants.{Note, Resource as WorkOn}
 use Rattle.jlr_types.specs.declared.Refusal.TheVariants.{Busy, NoHandle, Null, WrongKind}
 use Rattle.jlr_machine.specs.declared.object.Contents.{Contents}

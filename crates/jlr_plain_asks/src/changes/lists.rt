@@ -1,5 +1,5 @@
 //! Changes of the machine's lists.
-ghost use Rattle.std.specs.Prelude.{◌≡◌, ◌==◌, ◌++◌, ◌∷◌, [], not, map, filter, drop, if◌then◌else◌, IfOk, OnOk};
+ghost use Rattle.std.specs.Prelude.{◌≡◌, ◌==◌, ◌++◌, ◌∷◌, [], not, map, filter, if◌then◌else◌, IfOk, OnOk};
 ghost use Rattle.jlr_machine.specs.declared.machine.Resource.{Resource as ResourceOf};
 ghost use Rattle.jlr_machine.specs.Lookups.{bound, unbound, with_job, without_job, with_resource, last_256};
 

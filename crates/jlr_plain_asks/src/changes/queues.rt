@@ -1,5 +1,5 @@
 //! Queues of references, and the handler's step.
-ghost use Rattle.std.specs.Prelude.{◌≡◌, drop, option_and_then, option_map, OnOk, OnErr};
+ghost use Rattle.std.specs.Prelude.{◌≡◌, option_and_then, option_map, OnOk, OnErr};
 ghost use Rattle.jlr_machine.specs.declared.ask.Handed.TheVariants.{Lined};
 ghost use Rattle.jlr_machine.specs.Objects.{at, as_reference, queue_ahead};
 ghost use Rattle.jlr_machine.specs.Calls.{with_given, enqueued, polled, poll_given, delivered, handed, handed_over};

@@ -1,13 +1,11 @@
 //! Lists, item by item.
-ghost use Rattle.std.specs.Prelude.{◌<◌, ◌^◌};
+ghost use Rattle.std.specs.Prelude.{◌<◌};
 ghost use Rattle.std.specs.List.{AllByRecursion};
 
 use jlr_types::Slot;
 
 /// What the type of a value says of the numbers in it.
 pub trait Ranged: Sized {
-    ghost use Rattle.std.specs.Prelude.{◌≡◌};
-
     ghost Range: { Self → Type 0 };
 
     /// What its type says of it.

@@ -1,5 +1,4 @@
 //! Reads answers.
-ghost use Rattle.std.specs.Prelude.{◌≡◌};
 ghost use Rattle.jlr_trace_fields.specs.Reading.{Reads};
 ghost use Rattle.jlr_trace_entries.specs.declared.answers.tag.Tag.TheVariants.{Handle as TagHandle, Truth as TagTruth};
 ghost use Rattle.jlr_trace_entries.specs.declared.answers.tag.Tag.TheVariants.{Int as TagInt};

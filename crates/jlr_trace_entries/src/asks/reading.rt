@@ -1,5 +1,4 @@
 //! Reads asks.
-ghost use Rattle.std.specs.Prelude.{◌≡◌};
 ghost use Rattle.std.specs.Int.{w32, w64};
 ghost use Rattle.jlr_machine.specs.declared.ask.Ask.TheVariants.{Join, Leave, New, Put, Get, SetInt, Int, Dup, Drop};
 ghost use Rattle.jlr_machine.specs.declared.ask.Ask.TheVariants.{Same, MakeRef, Deref, Refers, Clear, Enqueue};

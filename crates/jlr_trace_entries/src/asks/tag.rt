@@ -1,5 +1,4 @@
 //! Which ask it is.
-ghost use Rattle.std.specs.Prelude.{◌≡◌};
 ghost use Rattle.jlr_trace_fields.specs.Reading.{Reads, picked_at};
 ghost use Rattle.jlr_trace_entries.specs.Asks.{ask_tags};
 

@@ -2,7 +2,7 @@
 ghost use Rattle.std.specs.Prelude.{◌≡◌, ◌+◌, ◌<◌, IfSome, Some, false, true};
 ghost use Rattle.jlr_machine.specs.Objects.{at};
 ghost use Rattle.jlr_machine.specs.declared.machine.ResourceState.TheVariants as state;
-ghost use Rattle.jlr_resource.specs.Resources.{resource_in, resource_state_at};
+ghost use Rattle.jlr_resource.specs.Resources.{resource_in};
 ghost use Rattle.jlr_cleaner.specs.Cleanings.{HasWork};
 ghost use Rattle.jlr_cleaner.specs.Jobs.{is_running, runs_job};
 

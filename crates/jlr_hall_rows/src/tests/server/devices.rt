@@ -1,5 +1,5 @@
 //! Files whose calls fail, in sessions beside the loops: what a session is told, and what the cleaner records.
-ghost use Rattle.std.specs.Prelude.{◌≡◌, ◌+◌};
+ghost use Rattle.std.specs.Prelude.{◌+◌};
 
 use super::clients::{After, Client, Clients};
 use jlr_device::script::{Script, ScriptDevice, Step};

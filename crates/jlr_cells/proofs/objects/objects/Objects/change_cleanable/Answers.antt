@@ -17,12 +17,12 @@ pub invariant_of-self : goal.invariant_of-self
 invariant_of-self c =
     let inside = c.self.inside in
     changed_are inside.store inside.occupancy.places inside.occupancy.used inside.listed c.self.invariant c.args.self.now.objects
-    (ap (λ (h : Holding). h.objects) c.self.view_is) c.args.slot (with_cleanable (altered_cleanable c.args.change)) c.change_cleanable.new.self
-    (cleanable_gives_none (altered_cleanable c.args.change)) c.change_cleanable.ensures
+    (ap (λ (h : Holding). h.objects) c.self.view_is) c.args.slot (with_cleanable (altered_cleanable c.args.change))
+    c.change_cleanable.new.self (cleanable_gives_none (altered_cleanable c.args.change)) c.change_cleanable.ensures
 
 pub returns-clause-objects : goal.returns-clause-objects
 returns-clause-objects c =
     let inside = c.self.inside in
     changed_view inside.store inside.occupancy.places inside.occupancy.used inside.listed c.self.invariant c.args.self.now.objects
-    (ap (λ (h : Holding). h.objects) c.self.view_is) c.args.slot (with_cleanable (altered_cleanable c.args.change)) c.change_cleanable.new.self
-    (object_of_cleanable _ c.requires) c.change_cleanable.ensures
+    (ap (λ (h : Holding). h.objects) c.self.view_is) c.args.slot (with_cleanable (altered_cleanable c.args.change))
+    c.change_cleanable.new.self (object_of_cleanable _ c.requires) c.change_cleanable.ensures

@@ -17,12 +17,12 @@ pub invariant_of-self : goal.invariant_of-self
 invariant_of-self c =
     let inside = c.self.inside in
     changed_are inside.store inside.occupancy.places inside.occupancy.used inside.listed c.self.invariant c.args.self.now.objects
-    (ap (λ (h : Holding). h.objects) c.self.view_is) c.args.slot (with_reference (altered_reference c.args.change)) c.change_reference.new.self
-    (reference_gives_none (altered_reference c.args.change)) c.change_reference.ensures
+    (ap (λ (h : Holding). h.objects) c.self.view_is) c.args.slot (with_reference (altered_reference c.args.change))
+    c.change_reference.new.self (reference_gives_none (altered_reference c.args.change)) c.change_reference.ensures
 
 pub returns-clause-objects : goal.returns-clause-objects
 returns-clause-objects c =
     let inside = c.self.inside in
     changed_view inside.store inside.occupancy.places inside.occupancy.used inside.listed c.self.invariant c.args.self.now.objects
-    (ap (λ (h : Holding). h.objects) c.self.view_is) c.args.slot (with_reference (altered_reference c.args.change)) c.change_reference.new.self
-    (object_of_reference _ c.requires) c.change_reference.ensures
+    (ap (λ (h : Holding). h.objects) c.self.view_is) c.args.slot (with_reference (altered_reference c.args.change))
+    c.change_reference.new.self (object_of_reference _ c.requires) c.change_reference.ensures
