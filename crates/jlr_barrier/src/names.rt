@@ -1,7 +1,7 @@
 //! The names of objects.
 ghost use Rattle.std.specs.Prelude.{◌≡◌, ◌≤◌, IfOk, None, OnErr, OnOk, length};
 ghost use Rattle.jlr_machine.specs.Lookups.{bound, slot_bound, unbound};
-ghost use Rattle.jlr_roots.specs.Naming.{names_of};
+ghost use Rattle.jlr_machine.specs.Names.{bound_names};
 ghost use Rattle.jlr_barrier.specs.Graphs.{with_names};
 ghost use Rattle.jlr_barrier.specs.Snapshots.{IsInHand};
 
@@ -59,7 +59,7 @@ impl Heap {
     /// # Errors
     /// `AllocError` where there are names and no memory for a copy of them.
     pub fn names(&self, alloc: Global) -> Result<Items<Name>, AllocError>
-        ensures names { IfOk result (λ names. names ≡ names_of self.now.graph.names) }
+        ensures names { IfOk result (λ names. names ≡ bound_names self.now.graph.names) }
         ensures some { OnErr result (1 ≤ length self.now.graph.names) }
     {
         self.names.names(alloc)

@@ -45,7 +45,8 @@ use Rattle.jlr_core.specs.Steps.{IsStep}
 use Rattle.jlr_book.specs.Histories.{LeadsToCore, seated}
 use Rattle.jlr_book.specs.Lists.{fits_fast_path}
 use Rattle.jlr_book.specs.Making.{SuitsChoice, SuitsEntry}
-use Rattle.jlr_book.specs.Writing.{Refuses, Stands, WritesEntry, is_refusing}
+use Rattle.jlr_book.specs.Writing.{Refuses, Stands, WritesEntry}
+use Rattle.jlr_machine.specs.Refusals.{is_refusal}
 use Rattle.jlr_book.specs.declared.room.ChoiceRoom.{ChoiceRoom}
 use Rattle.jlr_book.specs.declared.room.ChoiceRoom.TheVariants.{Collecting, Plain}
 use Rattle.jlr_book.specs.declared.room.EntryRoom.{EntryRoom}
@@ -355,8 +356,8 @@ end_chose h k e answer resource asked chosen s is end st =
     let x = as_entered h k e answer resource chosen asked s is st in
     sym (end_chooses st.0 asked answer chosen end x.1.0)
 
-pub not_refused : (answer : Answer) (by : Refusal) → is_refusing answer ≡ false → Some answer ≡ Some (Refused by) → ⊥
-not_refused answer by h e = both_ways (is_refusing answer) h (ap is_refusing (some_same answer (Refused by) e))
+pub not_refused : (answer : Answer) (by : Refusal) → is_refusal answer ≡ false → Some answer ≡ Some (Refused by) → ⊥
+not_refused answer by h e = both_ways (is_refusal answer) h (ap is_refusal (some_same answer (Refused by) e))
 
 pub stands_there : {R : Type 0} (image : Machine) (entries : List Entry) (core : Kept R) → LeadsToCore image entries core → Stands core
 stands_there image entries core ends = (ends.0, ends.2, ends.3)
@@ -390,6 +391,6 @@ still_suits m n ask room same x =
 -- ---- An end that the core refuses
 
 pub turned_away : {R : Type 0} (h k : Kept R) (e : Event R) (answer : Answer) (resource : Option R) (chosen : Chosen) (entries : List Entry)
-    → IsStep h e (Answered answer resource) chosen k → is_refusing answer ≡ true → Refuses h entries e (Answered answer resource) k entries
+    → IsStep h e (Answered answer resource) chosen k → is_refusal answer ≡ true → Refuses h entries e (Answered answer resource) k entries
 turned_away h k e (Refused by) resource chosen entries s is = record { steps = (chosen, s); by = by; refused = refl; stays = refl }
 turned_away h k e answer resource chosen entries s is = absurd (both_ways false refl is)

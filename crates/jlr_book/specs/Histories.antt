@@ -21,6 +21,13 @@ pub record History (R : Type 0) : Type 0 where
   pub entries : List Entry
   pub core : Kept R
 
+-- Mutator k has seat k. The three behind them are the marker's, the handler's and the cleaner's.
+abbrev pub handler_seat : {R : Type 0} → History R → ℕ
+handler_seat h = h.limits.sessions + 1
+
+abbrev pub cleaner_seat : {R : Type 0} → History R → ℕ
+cleaner_seat h = h.limits.sessions + 2
+
 -- the number of the last entry since opening
 abbrev pub last : {R : Type 0} → History R → ℕ
 last h = h.base + length h.entries

@@ -1,9 +1,8 @@
 -- Steps of the core that are written down, without the rest of the book.
-use Rattle.std.specs.Prelude.{◌≡◌, ◌≢◌, ◌⊎◌, ℕ, Bool, true, false, ◌++◌, List, Some}
+use Rattle.std.specs.Prelude.{◌≡◌, ◌≢◌, ◌⊎◌, ℕ, ◌++◌, List, Some}
 use Rattle.std.specs.Option.{option_to_list}
 use Rattle.jlr_types.specs.declared.Refusal.{Refusal}
 use Rattle.jlr_machine.specs.declared.machine.Machine.{Machine}
-use Rattle.jlr_machine.specs.declared.ask.Answer.{Answer}
 use Rattle.jlr_machine.specs.declared.ask.Answer.TheVariants.{Refused}
 use Rattle.jlr_machine.specs.Chosen.{Chosen}
 use Rattle.jlr_machine.specs.declared.entry.Entry.{Entry}
@@ -45,7 +44,3 @@ pub record Pieces {R : Type 0} (old : History R) (event : Event R) (reply : Repl
   pub chosen : Chosen
   pub step : IsStep old.core event reply chosen new.core
   pub stays : new ≡ record old { core = new.core }
-
-abbrev pub is_refusing : Answer → Bool
-is_refusing (Refused by) = true
-is_refusing answer = false

@@ -10,7 +10,8 @@ ghost use Rattle.jlr_histories.specs.Rooms.{HasRoomFor};
 ghost use Rattle.jlr_core.specs.Steps.{IsStep};
 ghost use Rattle.jlr_book.specs.Lists.{fits_fast_path};
 ghost use Rattle.jlr_book.specs.Making.{SuitsEntry};
-ghost use Rattle.jlr_book.specs.Writing.{is_refusing, Stands, WritesEntry, WritesEnd};
+ghost use Rattle.jlr_book.specs.Writing.{Stands, WritesEntry, WritesEnd};
+ghost use Rattle.jlr_machine.specs.Refusals.{is_refusal};
 
 use crate::room::{AnswerRoom, ChoiceRoom, EntryRoom, copy_without_room};
 use jlr_cleaner::Job;
@@ -251,7 +252,7 @@ pub(crate) fn record_end<R: Drop>(
 
 /// Whether an answer is a refusal.
 pub(crate) fn is_refused(answer: &Answer) -> bool
-    ensures { result ≡ is_refusing answer.now }
+    ensures { result ≡ is_refusal answer.now }
 {
     matches!(answer, Answer::Refused(_))
 }

@@ -19,12 +19,9 @@ use Rattle.jlr_machine.specs.declared.ask.Answer.{Answer}
 use Rattle.jlr_machine.specs.declared.ask.Answer.TheVariants.{Done, Handle, Truth, Int, Data, Wrote, Faulted, Names}
 use Rattle.jlr_machine.specs.declared.ask.Answer.TheVariants.{Notes, Faults, Stat, Job, AlreadyDone, Prepared, Out}
 use Rattle.jlr_machine.specs.declared.ask.Answer.TheVariants.{Handed, Refused}
+use Rattle.jlr_machine.specs.Refusals.{is_refusal}
 
 -- ---- Kinds of answers
-
-abbrev pub is_refused_answer : Answer → Bool
-is_refused_answer (Refused by) = true
-is_refused_answer _ = false
 
 -- nothing but that the ask was carried out
 abbrev pub tells_done : Answer → Bool
@@ -151,11 +148,11 @@ answer_kind (Array k n) = is_handle
 
 abbrev pub kind_asked : Option Ask → Answer → Bool
 kind_asked (Some ask) = answer_kind ask
-kind_asked None = is_refused_answer
+kind_asked None = is_refusal
 
 -- a refusal, or an answer of that kind
 abbrev pub is_told : (Answer → Bool) → Answer → Bool
-is_told kind answer = is_refused_answer answer || kind answer
+is_told kind answer = is_refusal answer || kind answer
 
 -- ---- What goes out
 

@@ -1,5 +1,5 @@
 -- A heap whose asks a book records.
-use Rattle.std.specs.Prelude.{◌≡◌, ◌⊎◌, ℕ, ◌+◌, List, [], ◌∷◌, Some}
+use Rattle.std.specs.Prelude.{◌≡◌, ◌⊎◌, List, [], ◌∷◌, Some}
 use Rattle.jlr_machine.specs.declared.ask.Handed.{Handed}
 use Rattle.jlr_machine.specs.declared.ask.Answer.TheVariants as answer
 use Rattle.jlr_machine.specs.declared.ask.Ask.TheVariants.{HandOver}
@@ -9,21 +9,18 @@ use Rattle.jlr_event.specs.Events.{answer_in}
 use Rattle.jlr_session.specs.Asks.{Asking}
 use Rattle.jlr_book.specs.Histories.{History}
 use Rattle.jlr_book.specs.Rules.{BookSteps, was_refused}
-
--- mutator k has seat k. Of the three behind them the second is the handler's
-abbrev pub recorded_handler_seat : {R : Type 0} → History R → ℕ
-recorded_handler_seat h = h.limits.sessions + 1
+use Rattle.jlr_book.specs.Histories.{handler_seat}
 
 module _ {R : Type 0} where
   -- a step of the handler, which handed something over
   abbrev pub HandsOne : History R → History R → Type 0
   HandsOne old new =
-      (reply : Reply R) × (what : Handed) × BookSteps (recorded_handler_seat old) old (Asks HandOver) reply new
+      (reply : Reply R) × (what : Handed) × BookSteps (handler_seat old) old (Asks HandOver) reply new
       × (answer_in reply ≡ Some (answer.Handed what))
 
   -- or was refused
   abbrev pub CannotHand : History R → History R → Type 0
-  CannotHand old new = (reply : Reply R) × BookSteps (recorded_handler_seat old) old (Asks HandOver) reply new
+  CannotHand old new = (reply : Reply R) × BookSteps (handler_seat old) old (Asks HandOver) reply new
       × was_refused reply
 
   -- such steps, which led to these

@@ -8,7 +8,8 @@ ghost use Rattle.jlr_core.specs.Events.{carries_none};
 ghost use Rattle.jlr_embed.specs.Kinds.{GoesBack, is_told, kind_asked, suits};
 ghost use Rattle.jlr_book.specs.Histories.{IsHistory, IsNewBook};
 ghost use Rattle.jlr_book.specs.Rules.{BookSteps};
-ghost use Rattle.jlr_heap.specs.Recording.{CannotHand, HandsOne, SettlesBook, recorded_handler_seat};
+ghost use Rattle.jlr_heap.specs.Recording.{CannotHand, HandsOne, SettlesBook};
+ghost use Rattle.jlr_book.specs.Histories.{handler_seat};
 
 use crate::keeper::Keeper;
 use jlr_book::book::Book;
@@ -55,7 +56,7 @@ impl<R: Drop> Recorded<R> {
 
     /// The handler's seat.
     fn handler(&self) -> u8
-        ensures { result ≡ recorded_handler_seat self.now }
+        ensures { result ≡ handler_seat self.now }
     {
         self.book.limits().sessions as u8 + 1
     }

@@ -30,6 +30,7 @@ use Rattle.jlr_machine.specs.Run.IsLegal.{carried_out, refused, heap_full, out_o
 use Rattle.jlr_machine.specs.WellFormed.{IsWellFormed}
 use Rattle.jlr_laws.proofs.Frames.{no_some, some_same}
 use Rattle.jlr_histories.specs.Rooms.{Rooms, FitsRooms, HasRoomFor}
+use Rattle.jlr_machine.specs.Names.{bound_names}
 
 module _ (room : Rooms) where
   plainly : (x a : Answer) → Some x ≡ Some a → FitsRooms room x → FitsRooms room a
@@ -108,7 +109,7 @@ module _ (room : Rooms) where
   answered m (Bind k name h) o a x y z r e = plainly answer.Done a e tt
   answered m (Find k name) o a x y z r e = handle m k a e
   answered m (Unbind k name) o a x y z r e = plainly answer.Done a e tt
-  answered m (Names k) o a x y z r e = plainly (answer.Names (map (λ b. b.name) m.names)) a e
+  answered m (Names k) o a x y z r e = plainly (answer.Names (bound_names m.names)) a e
       (let l = length-map {A = Binding} {B = List ℕ} m.names (λ b. b.name) in omega (arith, l, x, r))
   answered m (Full k mode) o a x y z r e = plainly answer.Done a e tt
   answered m (Stat k) o a x y z r e = plainly _ a e tt

@@ -25,7 +25,8 @@ use Rattle.jlr_laws.proofs.Frames.{no_some}
 use Rattle.jlr_laws.proofs.Keyed.{by_key, keyed_without, found_new, found_beside, found_gone, found_left, key_found}
 use Rattle.jlr_laws.proofs.Law.{legal_kept}
 use Rattle.jlr_laws.proofs.LegalKept.{entry, no_need}
-use Rattle.jlr_histories.specs.Lives.{is_job, is_job_for, take_ups, tells, is_refused, records, outcomes, running, IsRecorded}
+use Rattle.jlr_histories.specs.Lives.{is_job, is_job_for, take_ups, tells, records, outcomes, running, IsRecorded}
+use Rattle.jlr_machine.specs.Refusals.{is_refusal}
 use Rattle.jlr_histories.specs.Laws.{TakeUpBeginsItsJob, JobRunsUntilItsOutcome, JobRunsOnUntilItsOutcome, FinishRecordsTheOutcome}
 use Rattle.jlr_histories.specs.Laws.{TakersFinishIsRecorded, OnlyOutcomesAreRecorded, OutcomesAreRecorded, TakeUpHasOneOutcomeOrRunsInRuns}
 use Rattle.jlr_histories.proofs.Takes.{legal_taking}
@@ -80,16 +81,16 @@ module _ (m : Machine) (e : Entry) (l : IsLegal m e) where
         ap (job_of m) (sym number) ∙ w.actions.apart s c u
   ]
 
-  recording : (job : JobOf) (outcome : Outcome) → e.ask ≡ Finish job.by job.action outcome → is_refused e.answer ≡ false
+  recording : (job : JobOf) (outcome : Outcome) → e.ask ≡ Finish job.by job.action outcome → is_refusal e.answer ≡ false
       → records job.action e ≡ true
-  recording job outcome asks said = and_from (tells job.action e.ask) (not (is_refused e.answer))
+  recording job outcome asks said = and_from (tells job.action e.ask) (not (is_refusal e.answer))
       (ap (tells job.action) asks ∙ eq-eqb job.action job.action refl) (ap not said)
 
   -- the outcome of another is not
   not_recording : (action : ℕ) (job : JobOf) (outcome : Outcome) → e.ask ≡ Finish job.by job.action outcome → job.action ≢ action
       → records action e ≡ false
   not_recording action job outcome asks d =
-      and_left (tells action e.ask) (not (is_refused e.answer)) (ap (tells action) asks ∙ ne_eqb job.action action d)
+      and_left (tells action e.ask) (not (is_refusal e.answer)) (ap (tells action) asks ∙ ne_eqb job.action action d)
 
   -- ---- The job of an action
 
@@ -193,7 +194,7 @@ module _ (m : Machine) (w : IsWellFormed m) (action : ℕ) (job : JobOf) (there 
       ∙ cond-false (applies m (Finish job.by action outcome) NotOut) (Some NotOut) None asked
 
   said : (seat : ℕ) (outcome : Outcome) (answer : Answer) (choice : Chosen)
-      → IsLegal m (entry seat (Finish job.by action outcome) answer choice) → is_refused answer ≡ false
+      → IsLegal m (entry seat (Finish job.by action outcome) answer choice) → is_refusal answer ≡ false
   said seat outcome answer choice (carried_out c) = outcome_said outcome answer c.answers
   said seat outcome answer choice (refused c) = no_some c.by (sym (allowed outcome) ∙ c.first)
   said seat outcome answer choice (heap_full c) = absurd (no_need m c.no_room)
@@ -201,9 +202,9 @@ module _ (m : Machine) (w : IsWellFormed m) (action : ℕ) (job : JobOf) (there 
 
 pub takers_finish_is_recorded : TakersFinishIsRecorded
 takers_finish_is_recorded m e action job outcome w l there asks =
-    let quiet : is_refused e.answer ≡ false =
+    let quiet : is_refusal e.answer ≡ false =
     said m w action job there e.seat outcome e.answer e.choice (subst (λ ask. IsLegal m (entry e.seat ask e.answer e.choice)) asks l) in
-    and_from (tells action e.ask) (not (is_refused e.answer)) (ap (tells action) asks ∙ eq-eqb action action refl) (ap not quiet)
+    and_from (tells action e.ask) (not (is_refusal e.answer)) (ap (tells action) asks ∙ eq-eqb action action refl) (ap not quiet)
 
 -- ---- Counting
 

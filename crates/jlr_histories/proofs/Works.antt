@@ -33,7 +33,8 @@ use Rattle.jlr_laws.proofs.Allowed.{allowed, some_and_gives}
 use Rattle.jlr_laws.proofs.LegalKept.{entry, no_need}
 use Rattle.jlr_laws.proofs.Refused.{gives_no_refusal}
 use Rattle.jlr_laws.proofs.keeps.TakeUps.{job_of_cleanable, taken_up_is}
-use Rattle.jlr_histories.specs.Lives.{tells, is_refused}
+use Rattle.jlr_histories.specs.Lives.{tells}
+use Rattle.jlr_machine.specs.Refusals.{is_refusal}
 use Rattle.jlr_histories.proofs.Steps.{carried_is}
 use Rattle.jlr_histories.proofs.Takes.{named_cleanable, first_lined, lined_unspent}
 use Rattle.jlr_histories.proofs.Accounts.{Account, account, action_key, begun, ended, works, kept, collected_kept, carried_kept}
@@ -42,7 +43,7 @@ use Rattle.jlr_histories.proofs.Accounts.{Account, account, action_key, begun, e
 
 -- the outcome of no action is recorded
 abbrev pub IsSilent : Ask → Answer → Type 0
-IsSilent ask a = (action : ℕ) → (tells action ask && not (is_refused a)) ≡ false
+IsSilent ask a = (action : ℕ) → (tells action ask && not (is_refusal a)) ≡ false
 
 -- whose a job is that is taken up
 abbrev pub taker : Ask → ℕ
@@ -56,7 +57,7 @@ pub data IsWorking (m n : Machine) (ask : Ask) (a : Answer) : Type 0 where
   keeps : IsSilent ask a → account n ≡ account m → IsWorking m n ask a
   takes : IsSilent ask a → (action : ℕ) (work : Work) → a ≡ Job action work → account n ≡ begun m (job_for action work (taker ask))
       → IsWorking m n ask a
-  ends : (job : JobOf) (outcome : Outcome) → ask ≡ Finish job.by job.action outcome → is_refused a ≡ false → IsJob m job
+  ends : (job : JobOf) (outcome : Outcome) → ask ≡ Finish job.by job.action outcome → is_refusal a ≡ false → IsJob m job
       → account n ≡ ended m job outcome → IsWorking m n ask a
 
 -- ---- Take-ups
@@ -108,9 +109,9 @@ line_works m (s ∷ rest) a first h =
 
 -- ---- The end of a job
 
-pub outcome_said : (outcome : Outcome) (a : Answer) → outcome_answer outcome (Some Done) ≡ Some a → is_refused a ≡ false
-outcome_said OutcomeOk a e = ap is_refused (sym (some_same Done a e))
-outcome_said (Failed fault) a e = ap is_refused (sym (some_same (Faulted fault) a e))
+pub outcome_said : (outcome : Outcome) (a : Answer) → outcome_answer outcome (Some Done) ≡ Some a → is_refusal a ≡ false
+outcome_said OutcomeOk a e = ap is_refusal (sym (some_same Done a e))
+outcome_said (Failed fault) a e = ap is_refusal (sym (some_same (Faulted fault) a e))
 
 resource_kept : (m : Machine) (work : Work) → account (without_work_resource m (rid_of work)) ≡ account m
 resource_kept m (Note n) = refl
@@ -194,7 +195,7 @@ working_done m seat ask answer choice c = other m seat ask answer choice refl
 -- a refused ask does nothing
 refused_working : (m : Machine) (e : Entry) (by : Refusal) → e.answer ≡ Refused by → IsWorking m (done m e) e.ask e.answer
 refused_working m e by a =
-    keeps (λ action. and_right (tells action e.ask) (not (is_refused e.answer)) (ap (λ z. not (is_refused z)) a))
+    keeps (λ action. and_right (tells action e.ask) (not (is_refusal e.answer)) (ap (λ z. not (is_refusal z)) a))
     (ap (λ z. account (carried (with_collection m e.choice.collected) e.ask z e.choice.fresh)) a ∙ collected_kept m e.choice.collected)
 
 pub legal_working : (m : Machine) (e : Entry) → IsLegal m e → IsWorking m (done m e) e.ask e.answer

@@ -14,13 +14,14 @@ use Rattle.jlr_machine.specs.declared.ask.Outcome.TheVariants.{Ok as OutcomeOk, 
 use Rattle.jlr_machine.specs.declared.ask.Ask.{Ask}
 use Rattle.jlr_machine.specs.declared.ask.Ask.TheVariants.{Clear, Enqueue, Finish}
 use Rattle.jlr_machine.specs.declared.ask.Answer.{Answer}
-use Rattle.jlr_machine.specs.declared.ask.Answer.TheVariants.{Job, Refused}
+use Rattle.jlr_machine.specs.declared.ask.Answer.TheVariants.{Job}
 use Rattle.jlr_machine.specs.declared.entry.Entry.{Entry}
 use Rattle.jlr_machine.specs.Objects.{◌∋◌, some_and, is_queued}
 use Rattle.jlr_machine.specs.Lookups.{slot_named, job_of, last_256}
 use Rattle.jlr_machine.specs.Calls.{noted}
 use Rattle.jlr_machine.specs.Run.{apply}
 use Rattle.jlr_machine.specs.WellFormed.{IsObjectAt, state_at}
+use Rattle.jlr_machine.specs.Refusals.{is_refusal}
 
 -- ---- Lives
 
@@ -145,12 +146,8 @@ abbrev pub tells : ℕ → Ask → Bool
 tells action (Finish by a outcome) = nat_eq a action
 tells action _ = false
 
-abbrev pub is_refused : Answer → Bool
-is_refused (Refused by) = true
-is_refused _ = false
-
 abbrev pub records : ℕ → Entry → Bool
-records action e = tells action e.ask && not (is_refused e.answer)
+records action e = tells action e.ask && not (is_refusal e.answer)
 
 -- how many entries record an outcome of this action
 abbrev pub outcomes : ℕ → List Entry → ℕ

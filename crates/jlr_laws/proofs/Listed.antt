@@ -16,10 +16,11 @@ use Rattle.jlr_machine.specs.declared.machine.Binding.{Binding}
 use Rattle.jlr_laws.proofs.Frames.{IsRoot, root_gives, root_from, limits_stay}
 use Rattle.jlr_laws.proofs.Frames.IsRoot.{held, fencing, named, waiting, lining, active}
 use Rattle.jlr_laws.proofs.Changes.{HasCleanable, worker_over}
+use Rattle.jlr_machine.specs.Names.{bound_names}
 
 pub record IsListed (m : Machine) (names : List Binding) (pending line : List ℕ) (cycle_open : Bool) (seen : List ℕ) : Type 0 where
   pub names_there : (s : ℕ) → s ∈ map (λ b. b.slot) names → IsObjectAt m s × ¬ (IsPrivate m s)
-  pub names_distinct : IsDistinct same_name (map (λ b. b.name) names)
+  pub names_distinct : IsDistinct same_name (bound_names names)
   pub names_limit : length names ≤ 256
   pub pending_once : IsTrue (is_distinct pending)
   pub pending_less : (s : ℕ) → s ∈ pending → s ∈ m.pending

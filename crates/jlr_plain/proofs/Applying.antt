@@ -17,7 +17,8 @@ use Rattle.jlr_laws.proofs.Empty.{well_formed_within}
 use Rattle.jlr_laws.proofs.Law.{legal_kept}
 use Rattle.jlr_laws.proofs.Allowed.{allowed}
 use Rattle.jlr_plain.specs.Deciding.{carried_in, completed}
-use Rattle.jlr_plain_asks.specs.Counts.{HaveRoom, HasNextAction, refuses}
+use Rattle.jlr_plain_asks.specs.Counts.{HaveRoom, HasNextAction}
+use Rattle.jlr_machine.specs.Refusals.{is_refusal}
 
 -- ---- Counts
 
@@ -40,13 +41,13 @@ next_allowed m (Register k d h note) r = let f = leb-false _ _ (allowed m (Regis
 next_allowed m (Prepare k) r = let f = leb-false _ _ (allowed m (Prepare k) r Exhausted refl) in omega (arith, f)
 next_allowed m _ r = tt
 
-next_legal : (m : Machine) (e : Entry) → IsLegal m e → refuses e.answer ≡ false → HasNextAction m.next_action e.ask
+next_legal : (m : Machine) (e : Entry) → IsLegal m e → is_refusal e.answer ≡ false → HasNextAction m.next_action e.ask
 next_legal m e (carried_out c) n = next_allowed m e.ask c.allowed
-next_legal m e (refused r) n = absurd (both_ways (refuses e.answer) n (ap refuses r.answers))
-next_legal m e (heap_full r) n = absurd (both_ways (refuses e.answer) n (ap refuses r.answers))
-next_legal m e (out_of_memory r) n = absurd (both_ways (refuses e.answer) n (ap refuses r.answers))
+next_legal m e (refused r) n = absurd (both_ways (is_refusal e.answer) n (ap is_refusal r.answers))
+next_legal m e (heap_full r) n = absurd (both_ways (is_refusal e.answer) n (ap is_refusal r.answers))
+next_legal m e (out_of_memory r) n = absurd (both_ways (is_refusal e.answer) n (ap is_refusal r.answers))
 
-pub next_in_collected : (m : Machine) (e : Entry) → IsLegal m e → refuses e.answer ≡ false
+pub next_in_collected : (m : Machine) (e : Entry) → IsLegal m e → is_refusal e.answer ≡ false
     → HasNextAction (with_collection m e.choice.collected).next_action e.ask
 next_in_collected m e l n = subst (λ k. HasNextAction k e.ask) (next_kept m e.choice.collected) (next_legal m e l n)
 

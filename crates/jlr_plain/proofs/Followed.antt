@@ -26,7 +26,7 @@ use Rattle.jlr_laws.proofs.UpToDate.{seen_stays_up_to_date}
 use Rattle.jlr_histories.proofs.Seen.{now_seen_gives, reached_is_seen, seen_is_seen, none_seen}
 use Rattle.jlr_histories.proofs.Growing.{goes_on_in, GoesOnIn}
 use Rattle.jlr_histories.proofs.Marking.{entry_adds, reached_more, reached_base}
-use Rattle.jlr_plain_asks.specs.Counts.{refuses}
+use Rattle.jlr_machine.specs.Refusals.{is_refusal}
 use Rattle.jlr_plain.specs.Following.{SeenIsFollowed, IsWellFollowed, IsNext, adds_no_root, keeps_seen}
 use Rattle.jlr_plain.proofs.Small.{IsSmall, small, small_same}
 
@@ -102,7 +102,7 @@ module _ (m d : Machine) (f : SeenIsFollowed m) (on : m.cycle_open ≡ true) (wi
 
 -- ---- Behind an entry
 
-small_carried : (m : Machine) (ask : Ask) (a : Answer) (fresh : List ℕ) → (refuses a || adds_no_root m ask) ≡ true
+small_carried : (m : Machine) (ask : Ask) (a : Answer) (fresh : List ℕ) → (is_refusal a || adds_no_root m ask) ≡ true
     → IsSmall m (carried m ask a fresh)
 small_carried m ask (Refused by) fresh e = small_same m
 small_carried m ask a fresh e = small m ask a fresh e
@@ -113,7 +113,7 @@ not_collected (Some c) m e = absurd (both_ways false refl e)
 
 small_done : (m : Machine) (e : Entry) → keeps_seen m e ≡ true → IsSmall m (done m e)
 small_done m e k =
-    let both = and_parts (m.cycle_open && is_none e.choice.collected) (refuses e.answer || adds_no_root m e.ask) k in
+    let both = and_parts (m.cycle_open && is_none e.choice.collected) (is_refusal e.answer || adds_no_root m e.ask) k in
     let none = (and_parts m.cycle_open (is_none e.choice.collected) both.0).1 in
     subst (λ (n : Machine). IsSmall m (carried n e.ask e.answer e.choice.fresh)) (sym (not_collected e.choice.collected m none))
     (small_carried m e.ask e.answer e.choice.fresh both.1)
@@ -121,7 +121,7 @@ small_done m e k =
 pub seen_is_kept : (m : Machine) (e : Entry) → IsWellFormed m → SeenIsFollowed m → IsLegal m e → keeps_seen m e ≡ true
     → now_seen (done m e) ≡ (done m e).seen
 seen_is_kept m e w f legal k =
-    let both = and_parts (m.cycle_open && is_none e.choice.collected) (refuses e.answer || adds_no_root m e.ask) k in
+    let both = and_parts (m.cycle_open && is_none e.choice.collected) (is_refusal e.answer || adds_no_root m e.ask) k in
     let on = (and_parts m.cycle_open (is_none e.choice.collected) both.0).0 in
     nothing_new m (done m e) f on (well_formed_within m w) (well_formed_within (apply m e) (legal_kept m e w legal)) (small_done m e k)
 

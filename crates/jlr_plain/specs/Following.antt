@@ -11,7 +11,7 @@ use Rattle.jlr_machine.specs.Edges.Chain.{UpToSoft}
 use Rattle.jlr_machine.specs.Refusals.{given}
 use Rattle.jlr_machine.specs.Run.{IsLegal, apply, now_seen}
 use Rattle.jlr_machine.specs.WellFormed.{IsWellFormed}
-use Rattle.jlr_plain_asks.specs.Counts.{refuses}
+use Rattle.jlr_machine.specs.Refusals.{is_refusal}
 
 -- what was seen is up to date, and strong and soft edges lead from it to nothing else
 pub record SeenIsFollowed (m : Machine) : Type 0 where
@@ -57,4 +57,4 @@ adds_no_root m _ = false
 
 -- in an open cycle, that goes on, the entry adds nothing to what was seen
 abbrev pub keeps_seen : Machine → Entry → Bool
-keeps_seen m e = m.cycle_open && is_none e.choice.collected && (refuses e.answer || adds_no_root m e.ask)
+keeps_seen m e = m.cycle_open && is_none e.choice.collected && (is_refusal e.answer || adds_no_root m e.ask)

@@ -5,7 +5,8 @@ ghost use Rattle.jlr_machine.specs.Run.{IsLegal, carried, done, now_seen, apply}
 ghost use Rattle.jlr_machine.specs.WellFormed.{IsWellFormed};
 ghost use Rattle.jlr_laws.specs.Laws.{IsWithinHeap};
 ghost use Rattle.jlr_plain.specs.Deciding.{carried_in, completed};
-ghost use Rattle.jlr_plain_asks.specs.Counts.{HaveRoom, HasNextAction, refuses};
+ghost use Rattle.jlr_plain_asks.specs.Counts.{HaveRoom, HasNextAction};
+ghost use Rattle.jlr_machine.specs.Refusals.{is_refusal};
 
 use crate::following::is_refusal;
 use jlr_machine::ask::{Answer, Ask};
@@ -29,7 +30,7 @@ fn carry_out(
     fresh: &[Slot],
 ) -> Result<Machine, AllocError>
     requires counts { HaveRoom machine }
-    requires actions { refuses answer.now ≡ false → HasNextAction machine.next_action ask.now }
+    requires actions { is_refusal answer.now ≡ false → HasNextAction machine.next_action ask.now }
     ensures { IfOk result (λ n. n ≡ carried machine ask.now answer.now fresh.now) }
 {
     if is_refusal(answer) {
@@ -52,7 +53,7 @@ pub(crate) fn complete(
     kept: bool,
 ) -> Result<Machine, AllocError>
     requires counts { HaveRoom machine }
-    requires actions { refuses entry.now.answer ≡ false → HasNextAction machine.next_action entry.now.ask }
+    requires actions { is_refusal entry.now.answer ≡ false → HasNextAction machine.next_action entry.now.ask }
     requires cells { length (carried_in machine entry.now).objects ≤ 2 ^ 32 }
     requires within { IsWithinHeap (carried_in machine entry.now).objects (roots (carried_in machine entry.now)) }
     requires kept { kept ≡ true → now_seen (carried_in machine entry.now) ≡ (carried_in machine entry.now).seen }

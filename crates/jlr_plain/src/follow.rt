@@ -2,7 +2,8 @@
 ghost use Rattle.std.specs.Prelude.{◌≡◌, true, false, OnOk, OnErr};
 ghost use Rattle.jlr_machine.specs.Collection.{after_collection};
 ghost use Rattle.jlr_machine.specs.Run.{apply};
-ghost use Rattle.jlr_plain_asks.specs.Counts.{HaveRoom, HasNextAction, refuses};
+ghost use Rattle.jlr_plain_asks.specs.Counts.{HaveRoom, HasNextAction};
+ghost use Rattle.jlr_machine.specs.Refusals.{is_refusal};
 ghost use Rattle.jlr_plain_asks.specs.Making.{comes_with};
 ghost use Rattle.jlr_plain.specs.Deciding.{carried_in};
 ghost use Rattle.jlr_plain.specs.Unseen.{unseen, IsLegalBefore};
@@ -19,7 +20,7 @@ use std::alloc::{AllocError, Global};
 /// An entry that comes with no collection.
 fn follow_alone(alloc: Global, machine: &mut Machine, entry: &Entry) -> Result<(), AllocError>
     requires counts { HaveRoom machine.old }
-    requires actions { refuses entry.now.answer ≡ false → HasNextAction machine.old.next_action entry.now.ask }
+    requires actions { is_refusal entry.now.answer ≡ false → HasNextAction machine.old.next_action entry.now.ask }
     ensures ok { OnOk result (machine.new ≡ carried_in machine.old entry.now) }
     ensures err { OnErr result (machine.new ≡ machine.old) }
 {
@@ -37,8 +38,8 @@ fn follow_collecting(
     entry: &Entry,
     collected: &Collected,
 ) -> Result<(), AllocError>
-    requires comes { refuses entry.now.answer ≡ false → comes_with entry.now.ask ≡ true }
-    requires actions { refuses entry.now.answer ≡ false → HasNextAction machine.old.next_action entry.now.ask }
+    requires comes { is_refusal entry.now.answer ≡ false → comes_with entry.now.ask ≡ true }
+    requires actions { is_refusal entry.now.answer ≡ false → HasNextAction machine.old.next_action entry.now.ask }
     ensures ok { OnOk result (machine.new ≡ carried_in
         (after_collection machine.old collected.now.kept collected.now.pending) entry.now) }
     ensures err { OnErr result (machine.new ≡ machine.old) }

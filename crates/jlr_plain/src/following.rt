@@ -1,6 +1,6 @@
 //! Which entries add nothing to what was seen in an open cycle.
 ghost use Rattle.std.specs.Prelude.{◌≡◌};
-ghost use Rattle.jlr_plain_asks.specs.Counts.{refuses};
+ghost use Rattle.jlr_machine.specs.Refusals.{is_refusal};
 ghost use Rattle.jlr_plain.specs.Following.{is_seen_given, adds_no_root, keeps_seen};
 
 use jlr_machine::ask::{Answer, Ask};
@@ -11,7 +11,7 @@ use jlr_plain_collections::collection::holds;
 use jlr_types::Slot;
 
 pub(crate) fn is_refusal(answer: &Answer) -> bool
-    ensures { result ≡ refuses answer.now }
+    ensures { result ≡ is_refusal answer.now }
 {
     match answer {
         Answer::Refused(_) => true,

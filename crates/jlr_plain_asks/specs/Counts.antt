@@ -1,10 +1,8 @@
 -- The counts of a machine that an ask counts up.
-use Rattle.std.specs.Prelude.{ℕ, ◌+◌, ◌^◌, ◌<◌, Bool, true, false}
+use Rattle.std.specs.Prelude.{ℕ, ◌+◌, ◌^◌, ◌<◌}
 use Rattle.jlr_machine.specs.declared.machine.Machine.{Machine}
 use Rattle.jlr_machine.specs.declared.ask.Ask.{Ask}
 use Rattle.jlr_machine.specs.declared.ask.Ask.TheVariants.{Register, Prepare}
-use Rattle.jlr_machine.specs.declared.ask.Answer.{Answer}
-use Rattle.jlr_machine.specs.declared.ask.Answer.TheVariants.{Refused}
 
 -- each has room for one more
 pub record HaveRoom (m : Machine) : Type 0 where
@@ -17,8 +15,3 @@ abbrev pub HasNextAction : ℕ → Ask → Type 0
 HasNextAction next (Register k d h note) = next + 1 < 2 ^ 64
 HasNextAction next (Prepare k) = next + 1 < 2 ^ 64
 HasNextAction next _ = Unit {0}
-
--- an answer that refuses
-abbrev pub refuses : Answer → Bool
-refuses (Refused by) = true
-refuses _ = false

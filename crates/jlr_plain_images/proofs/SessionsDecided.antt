@@ -1,5 +1,5 @@
 -- What the test of mutators and names tells.
-use Rattle.std.proofs.Common.{◌≡◌, ◌↔◌, ℕ, false, Decides, IsTrue, List, [], ◌∷◌, length, refl, map, None}
+use Rattle.std.proofs.Common.{◌≡◌, ◌↔◌, ℕ, false, Decides, IsTrue, List, [], ◌∷◌, length, refl, None}
 use Rattle.std.specs.List.{AllByRecursion, IsDistinct}
 use Rattle.std.proofs.lemmas.Bool.{not-true, not_from_false}
 use Rattle.jlr_machine.specs.declared.machine.Machine.{Machine}
@@ -12,6 +12,7 @@ use Rattle.jlr_machine.specs.Lookups.{same_name}
 use Rattle.jlr_machine.specs.WellFormed.{AreSessions, OpeningHasRoom}
 use Rattle.jlr_plain_images.specs.Sessions.{opening_has_room, session_fits, is_new_name, names_differ, sessions_fit}
 use Rattle.jlr_plain_images.proofs.Everywhere.{Decides-places, Decides-none, Decides-equal, Decides-most, also, turned}
+use Rattle.jlr_machine.specs.Names.{bound_names}
 
 Decides-opening : (s : Session) (call : Call) → Decides (opening_has_room s call) (OpeningHasRoom s call)
 Decides-opening s (Opening rid) = Decides-most (occupied s.handles) 249
@@ -19,16 +20,13 @@ Decides-opening s Free = ((λ h. tt), (λ u. refl))
 Decides-opening s (Out rid) = ((λ h. tt), (λ u. refl))
 Decides-opening s (Job action) = ((λ h. tt), (λ u. refl))
 
-abbrev names_of : List Binding → List (List ℕ)
-names_of names = map (λ b. b.name) names
-
 new_name : (name : List ℕ) (names : List Binding)
-    → Decides (is_new_name name names) (AllByRecursion (λ other. same_name name other ≡ false) (names_of names))
+    → Decides (is_new_name name names) (AllByRecursion (λ other. same_name name other ≡ false) (bound_names names))
 new_name name [] = ((λ h. tt), (λ u. refl))
 new_name name (b ∷ names) =
     also ((λ h. not-true (same_name name b.name) h), (λ h. not_from_false (same_name name b.name) h)) (new_name name names)
 
-Decides-names : (names : List Binding) → Decides (names_differ names) (IsDistinct same_name (names_of names))
+Decides-names : (names : List Binding) → Decides (names_differ names) (IsDistinct same_name (bound_names names))
 unfolding IsDistinct
 Decides-names [] = ((λ h. tt), (λ u. refl))
 Decides-names (b ∷ names) = also (new_name b.name names) (Decides-names names)

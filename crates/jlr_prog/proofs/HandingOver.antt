@@ -38,7 +38,8 @@ use Rattle.jlr_book.specs.Cores.{Steps}
 use Rattle.jlr_book.specs.Histories.{History, IsHistory}
 use Rattle.jlr_book.specs.Rules.{AsksBy, BookSteps, Cuts, EndsBy, GivesUp, Readies, StepsBy, was_refused}
 use Rattle.jlr_prog.specs.Settling.{HandsOver}
-use Rattle.jlr_prog.specs.Solos.{at_book, handler_seat}
+use Rattle.jlr_prog.specs.Solos.{at_book}
+use Rattle.jlr_book.specs.Histories.{handler_seat}
 use Rattle.jlr_prog.specs.OneTurn.{IsTurn, turn_by}
 use Rattle.jlr_book.specs.Writing.{Stands}
 use Rattle.jlr_prog.specs.declared.solo.solo.Turn.{Turn}

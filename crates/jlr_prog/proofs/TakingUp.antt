@@ -42,7 +42,8 @@ use Rattle.jlr_session.specs.Asks.{job_by, job_with, TellsFinished}
 use Rattle.jlr_book.specs.Histories.{History, IsHistory}
 use Rattle.jlr_book.specs.Rules.{BookSteps, was_refused}
 use Rattle.jlr_prog.specs.Settling.{Works}
-use Rattle.jlr_prog.specs.Solos.{at_book, cleaner_seat}
+use Rattle.jlr_prog.specs.Solos.{at_book}
+use Rattle.jlr_book.specs.Histories.{cleaner_seat}
 use Rattle.jlr_prog.specs.OneTurn.{IsTurn, turn_by}
 use Rattle.jlr_prog.specs.declared.solo.solo.Turn.{Turn}
 use Rattle.jlr_prog.specs.declared.solo.solo.Turn.TheVariants as turn

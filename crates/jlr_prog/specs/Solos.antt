@@ -1,17 +1,11 @@
 -- A book that one session has for itself.
-use Rattle.std.specs.Prelude.{ℕ, ◌+◌}
 use Rattle.jlr_device.specs.Handling.{Handling}
 use Rattle.jlr_session.specs.Asks.{Asking}
 use Rattle.jlr_book.specs.Histories.{History}
 use Rattle.jlr_book.specs.Rules.{BookSteps}
 use Rattle.jlr_prog.specs.Settling.{Helpers, Settles}
-
--- Mutator k has seat k. The three behind them are the marker's, the handler's and the cleaner's.
-abbrev pub handler_seat : {R : Type 0} → History R → ℕ
-handler_seat h = h.limits.sessions + 1
-
-abbrev pub cleaner_seat : {R : Type 0} → History R → ℕ
-cleaner_seat h = h.limits.sessions + 2
+use Rattle.jlr_book.specs.Histories.{handler_seat}
+use Rattle.jlr_book.specs.Histories.{cleaner_seat}
 
 -- the handler and the cleaner of a book
 abbrev pub at_book : {R : Type 0} → Helpers (History R) R

@@ -13,7 +13,8 @@ use Rattle.std.specs.Map.{lookup, remove_entry, keys_of}
 use Rattle.indexmap.specs.IndexMap.{insert_entry}
 use Rattle.jlr_machine.specs.declared.machine.Binding.{Binding}
 use Rattle.jlr_machine.specs.Lookups.{bound, same_name, slot_bound, unbound}
-use Rattle.jlr_roots.specs.Naming.{bindings_of, names_of, named}
+use Rattle.jlr_roots.specs.Naming.{bindings_of, named}
+use Rattle.jlr_machine.specs.Names.{bound_names}
 
 -- texts are compared alike, whichever comes first
 flipped : (xs ys : List ℕ) → bytes_eq xs ys ≡ bytes_eq ys xs
@@ -111,6 +112,6 @@ slot_there es i = slice_get-map (λ b. b.slot) (bindings_of es) i ∙ ap (option
 
 -- ---- The names of the entries
 
-pub names_there : (es : List (List ℕ × ℕ)) → keys_of es ≡ names_of (bindings_of es)
+pub names_there : (es : List (List ℕ × ℕ)) → keys_of es ≡ bound_names (bindings_of es)
 names_there [] = refl
 names_there (e ∷ es) = ap (λ l. e.0 ∷ l) (names_there es)

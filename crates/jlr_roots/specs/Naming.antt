@@ -2,10 +2,6 @@
 use Rattle.std.specs.Prelude.{ℕ, List, map}
 use Rattle.jlr_machine.specs.declared.machine.Binding.{Binding}
 
--- the names, in order of binding
-abbrev pub names_of : List Binding → List (List ℕ)
-names_of names = map (λ b. b.name) names
-
 -- the slots that they stand for, in the same order
 abbrev pub named : List Binding → List ℕ
 named names = map (λ b. b.slot) names

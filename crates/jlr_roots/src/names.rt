@@ -1,7 +1,8 @@
 //! The names of objects.
 ghost use Rattle.std.specs.Prelude.{◌≡◌, ◌≤◌, IfOk, None, OnErr, OnOk, [], length, slice_get};
 ghost use Rattle.jlr_machine.specs.Lookups.{bound, slot_bound, unbound};
-ghost use Rattle.jlr_roots.specs.Naming.{bindings_of, names_of, named};
+ghost use Rattle.jlr_roots.specs.Naming.{bindings_of, named};
+ghost use Rattle.jlr_machine.specs.Names.{bound_names};
 
 use indexmap::IndexMap;
 use jlr_machine::items::Items;
@@ -105,7 +106,7 @@ impl Names {
     /// # Errors
     /// `AllocError` where there are names and no memory for a copy of them.
     pub fn names(&self, alloc: Global) -> Result<Items<Name>, AllocError>
-        ensures names { IfOk result (λ names. names ≡ names_of self.now) }
+        ensures names { IfOk result (λ names. names ≡ bound_names self.now) }
         ensures some { OnErr result (1 ≤ length self.now) }
     {
         Ok(Items::from_vec(copy_names(alloc, &self.slots)?))
@@ -133,7 +134,7 @@ fn copy_bindings(alloc: Global, slots: &IndexMap<Name, Slot>) -> Result<Vec<Bind
 }
 
 fn copy_names(alloc: Global, slots: &IndexMap<Name, Slot>) -> Result<Vec<Name>, AllocError>
-    ensures names { IfOk result (λ names. names.items ≡ names_of (bindings_of slots.now.entries)) }
+    ensures names { IfOk result (λ names. names.items ≡ bound_names (bindings_of slots.now.entries)) }
     ensures some { OnErr result (1 ≤ length slots.now.entries) }
 {
     if slots.is_empty() {

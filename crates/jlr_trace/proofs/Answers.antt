@@ -3,7 +3,7 @@ use Rattle.std.specs.List.{AllByRecursion}
 use Rattle.std.specs.Int.{w32, w64}
 use Rattle.jlr_machine.specs.declared.ask.Answer.TheVariants.{Done, Handle, Truth, Int, Data, Wrote, Faulted, Names, Notes, Faults, Stat}
 use Rattle.jlr_machine.specs.declared.ask.Answer.TheVariants.{Job, AlreadyDone, Prepared, Out, Handed, Refused}
-use Rattle.jlr_trace_fields.specs.Reading.{is_name_letter}
+use Rattle.jlr_machine.specs.Names.{is_name_byte}
 use Rattle.jlr_trace_fields.specs.Tables.{faults}
 use Rattle.jlr_trace_entries.specs.Answers.{refusals, handings, stat_read, answer_tags, answer_body, answer_read}
 use Rattle.jlr_trace.specs.Steady.{IsSteady}
@@ -27,7 +27,7 @@ bodies =
     ▸ record { still = (one (data_text 0 200) Data).still }
     ▸ record { still = (one (byte_within 0 200) Wrote).still }
     ▸ record { still = (one (picked 1 faults) Faulted).still }
-    ▸ record { still = (one (list 2 (text 1 32 is_name_letter)) Names).still }
+    ▸ record { still = (one (list 2 (text 1 32 is_name_byte)) Names).still }
     ▸ record { still = (one (list 4 (number w32)) Notes).still }
     ▸ record { still = (one (list 9 failure) Faults).still }
     ▸ record { still = (one stat Stat).still }

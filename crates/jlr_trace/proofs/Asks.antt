@@ -12,7 +12,7 @@ use Rattle.jlr_machine.specs.declared.ask.Ask.TheVariants.{Full, Stat, Notes, Fa
 use Rattle.jlr_trace_fields.specs.declared.fault.Fault.TheVariants.{Range}
 use Rattle.jlr_trace_fields.specs.declared.version.Version.{Version}
 use Rattle.jlr_trace_fields.specs.declared.version.Version.TheVariants.{One, Two}
-use Rattle.jlr_trace_fields.specs.Reading.{is_name_letter}
+use Rattle.jlr_machine.specs.Names.{is_name_byte}
 use Rattle.jlr_trace_fields.specs.Items.{items_at}
 use Rattle.jlr_trace_fields.specs.Tables.{ref_kinds, faults}
 use Rattle.jlr_trace_entries.specs.Asks.{outcomes_by_number, modes, kind_read, layout_read, call_outcome_behind, call_outcome_read}
@@ -82,9 +82,9 @@ bodies version =
     ▸ record { still = (two byte call_outcome CheckIn).still }
     ▸ record { still = (two byte byte Close).still }
     ▸ record { still = (three byte (number w64) (picked 0 outcomes_by_number) Finish).still }
-    ▸ record { still = (three byte (text 1 32 is_name_letter) byte Bind).still }
-    ▸ record { still = (two byte (text 1 32 is_name_letter) Find).still }
-    ▸ record { still = (two byte (text 1 32 is_name_letter) Unbind).still }
+    ▸ record { still = (three byte (text 1 32 is_name_byte) byte Bind).still }
+    ▸ record { still = (two byte (text 1 32 is_name_byte) Find).still }
+    ▸ record { still = (two byte (text 1 32 is_name_byte) Unbind).still }
     ▸ record { still = (one byte Names).still }
     ▸ record { still = (two byte (picked 0 modes) Full).still }
     ▸ record { still = (one byte Stat).still }

@@ -8,7 +8,8 @@ use Rattle.jlr_machine.specs.declared.machine.Call.TheVariants.{Free, Opening as
 use Rattle.jlr_trace_fields.specs.declared.fault.Fault.TheVariants.{Range}
 use Rattle.jlr_trace_fields.specs.declared.version.Version.{Version}
 use Rattle.jlr_trace_fields.specs.declared.version.Version.TheVariants.{One, Two}
-use Rattle.jlr_trace_fields.specs.Reading.{one_field, option_at, is_name_letter}
+use Rattle.jlr_trace_fields.specs.Reading.{one_field, option_at}
+use Rattle.jlr_machine.specs.Names.{is_name_byte}
 use Rattle.jlr_trace_fields.specs.Items.{items_at, may_follow}
 use Rattle.jlr_trace_fields.specs.Tables.{ref_kinds, ref_states, clean_states, faults, resource_states}
 use Rattle.jlr_trace_fields.specs.Objects.{value_behind, value_read, work_behind, work_read, typed, array, plain_read, array_read, array_in}
@@ -89,7 +90,7 @@ object version = then_read byte (object_behind version) (object_after version)
 
 pub binding : IsSteady binding_read
 unfolding binding_read
-binding = two (text 1 32 is_name_letter) (number w32) (λ name slot. record { name = name; slot = slot })
+binding = two (text 1 32 is_name_byte) (number w32) (λ name slot. record { name = name; slot = slot })
 
 pub failure : IsSteady failure_read
 unfolding failure_read

@@ -18,7 +18,8 @@ use Rattle.jlr_trace_fields.specs.Spelling.{spelled_flag, spelled_32, spelled_64
 use Rattle.jlr_trace_fields.specs.Spelling.{IsSigned}
 use Rattle.jlr_trace_fields.specs.Spelling.{IsText, IsWithin}
 use Rattle.jlr_trace_fields.specs.Reading.{Reader, ◌>>=◌, one_field, two_fields, five_fields, byte_at, byte_within_at}
-use Rattle.jlr_trace_fields.specs.Reading.{number_at, signed_at, flag_at, picked_at, bytes_at, text_at, is_name_letter}
+use Rattle.jlr_trace_fields.specs.Reading.{number_at, signed_at, flag_at, picked_at, bytes_at, text_at}
+use Rattle.jlr_machine.specs.Names.{is_name_byte}
 use Rattle.jlr_trace_fields.specs.Items.{list_at, spelled_list, IsListed}
 use Rattle.jlr_trace_fields.specs.Tables.{faults, fault_number}
 use Rattle.jlr_trace_fields.specs.Objects.{spelled_work, WorkFits, work_read}
@@ -132,7 +133,7 @@ answer_body TagInt bytes = one_field signed_at Int bytes
 answer_body TagData bytes = one_field (bytes_at 0 200) Data bytes
 answer_body TagWrote bytes = one_field (byte_within_at 0 200) Wrote bytes
 answer_body TagFaulted bytes = one_field (picked_at 1 faults) Faulted bytes
-answer_body TagNames bytes = one_field (list_at 2 (text_at 1 32 is_name_letter)) Names bytes
+answer_body TagNames bytes = one_field (list_at 2 (text_at 1 32 is_name_byte)) Names bytes
 answer_body TagNotes bytes = one_field (list_at 4 (number_at w32)) Notes bytes
 answer_body TagFaults bytes = one_field (list_at 9 failure_read) Faults bytes
 answer_body TagStat bytes = one_field stat_read Stat bytes

@@ -27,7 +27,8 @@ use Rattle.jlr_trace_fields.specs.Spelling.{spelled_8, spelled_16, spelled_32, s
 use Rattle.jlr_trace_fields.specs.Spelling.{IsSigned, IsText, IsWithin}
 use Rattle.jlr_trace_fields.specs.Reading.{Reader, ◌>>=◌, one_field, two_fields, three_fields, four_fields, byte_at}
 use Rattle.jlr_trace_fields.specs.Reading.{byte_within_at, number_at, number_within_at, signed_at, picked_at, bytes_at}
-use Rattle.jlr_trace_fields.specs.Reading.{text_at, is_name_letter}
+use Rattle.jlr_trace_fields.specs.Reading.{text_at}
+use Rattle.jlr_machine.specs.Names.{is_name_byte}
 use Rattle.jlr_trace_fields.specs.Items.{items_at}
 use Rattle.jlr_trace_fields.specs.Tables.{ref_kinds, ref_kind_number, faults, fault_number}
 use Rattle.jlr_trace_fields.specs.Records.{NameFits}
@@ -273,9 +274,9 @@ ask_body version TagCheckOut bytes = two_fields byte_at byte_at CheckOut bytes
 ask_body version TagCheckIn bytes = two_fields byte_at call_outcome_read CheckIn bytes
 ask_body version TagClose bytes = two_fields byte_at byte_at Close bytes
 ask_body version TagFinish bytes = three_fields byte_at (number_at w64) (picked_at 0 outcomes_by_number) Finish bytes
-ask_body version TagBind bytes = three_fields byte_at (text_at 1 32 is_name_letter) byte_at Bind bytes
-ask_body version TagFind bytes = two_fields byte_at (text_at 1 32 is_name_letter) Find bytes
-ask_body version TagUnbind bytes = two_fields byte_at (text_at 1 32 is_name_letter) Unbind bytes
+ask_body version TagBind bytes = three_fields byte_at (text_at 1 32 is_name_byte) byte_at Bind bytes
+ask_body version TagFind bytes = two_fields byte_at (text_at 1 32 is_name_byte) Find bytes
+ask_body version TagUnbind bytes = two_fields byte_at (text_at 1 32 is_name_byte) Unbind bytes
 ask_body version TagNames bytes = one_field byte_at Names bytes
 ask_body version TagFull bytes = two_fields byte_at (picked_at 0 modes) Full bytes
 ask_body version TagStat bytes = one_field byte_at Stat bytes

@@ -16,7 +16,8 @@ use Rattle.jlr_machine.specs.declared.machine.ResourceState.{ResourceState}
 use Rattle.jlr_machine.specs.declared.machine.Call.TheVariants.{Free, Opening as CallOpening, Out as CallOut, Job as CallJob}
 use Rattle.jlr_trace_fields.specs.declared.fault.Fault.TheVariants.{Range}
 use Rattle.jlr_trace_fields.specs.declared.version.Version.{Version}
-use Rattle.jlr_trace_fields.specs.Reading.{Reader, ◌>>=◌, text_at, is_name_letter}
+use Rattle.jlr_trace_fields.specs.Reading.{Reader, ◌>>=◌, text_at}
+use Rattle.jlr_machine.specs.Names.{is_name_byte}
 use Rattle.jlr_trace_fields.specs.Spelling.{spelled_8, spelled_32, spelled_64, spelled_text}
 use Rattle.jlr_trace_fields.specs.Items.{may_follow}
 use Rattle.jlr_trace_fields.specs.Laws.{TakesBehind, TakesSpelled, ReadsAgain, IsField, IsShortest, FollowsWith, IsRisingField}
@@ -35,8 +36,8 @@ use Rattle.jlr_trace_fields.specs.Records.{placed_behind, placed_after, spelled_
 use Rattle.jlr_trace_fields.proofs.TableLaws.{resource_state, fault}
 use Rattle.jlr_trace_fields.proofs.Objects.{work, object}
 
-pub name : IsField (text_at 1 32 is_name_letter) spelled_text NameFits
-name = text 1 32 is_name_letter
+pub name : IsField (text_at 1 32 is_name_byte) spelled_text NameFits
+name = text 1 32 is_name_byte
 
 pub name_least : IsShortest 2 spelled_text NameFits
 name_least n fits = omega (arith, fits.0.0)

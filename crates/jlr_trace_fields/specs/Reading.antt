@@ -3,7 +3,6 @@ use Rattle.std.specs.Prelude.{◌≡◌, ℕ, ℤ, ◌-◌, Bool, ◌||◌, ◌=
 use Rattle.std.specs.Prelude.{Result, Ok, Err, nat_lt, if◌then◌else◌, slice_get}
 use Rattle.std.specs.List.{list_all}
 use Rattle.std.specs.Int.{Width, w32, w64, byte_len, from_be_bytes, cast_signed}
-use Rattle.jlr_machine.specs.Names as names
 use Rattle.jlr_trace_fields.specs.declared.fault.Fault.{Fault}
 use Rattle.jlr_trace_fields.specs.declared.fault.Fault.TheVariants.{Short, Range}
 use Rattle.jlr_trace_fields.specs.declared.fault.ReadError.{ReadError}
@@ -114,7 +113,3 @@ unfoldable pub bytes_at : ℕ → ℕ → List ℕ → Result (List ℕ × List 
 bytes_at low high bytes = do
   count ← byte_within_at low high bytes
   taken_at count.0 count.1
-
--- a small letter, a digit or an underscore
-abbrev pub is_name_letter : ℕ → Bool
-is_name_letter = names.is_name_byte

@@ -12,7 +12,7 @@ use Rattle.jlr_trace_fields.specs.declared.fault.Fault.TheVariants.{Range}
 use Rattle.jlr_trace_fields.specs.declared.version.Version.{Version}
 use Rattle.jlr_trace_fields.specs.Spelling.{spelled_8, spelled_32, spelled_64, spelled_text, IsTextOf}
 use Rattle.jlr_trace_fields.specs.Reading.{Reader, ◌>>=◌, one_field, two_fields, byte_at, number_at, picked_at, text_at}
-use Rattle.jlr_trace_fields.specs.Reading.{is_name_letter}
+use Rattle.jlr_machine.specs.Names.{is_name_byte}
 use Rattle.jlr_trace_fields.specs.Items.{may_follow}
 use Rattle.jlr_trace_fields.specs.declared.parts.record.Placed.{Placed}
 use Rattle.jlr_trace_fields.specs.declared.parts.record.Held.{Held}
@@ -22,7 +22,7 @@ use Rattle.jlr_trace_fields.specs.Objects.{WorkFits}
 use Rattle.jlr_trace_fields.specs.Objects.{work_read}
 
 abbrev pub NameFits : List ℕ → Type 0
-NameFits name = IsTextOf 1 32 is_name_letter name
+NameFits name = IsTextOf 1 32 is_name_byte name
 
 -- ---- Bindings and failures
 
@@ -34,7 +34,7 @@ pub record BindingFits (b : Binding) : Type 0 where
   pub slot : b.slot < 2 ^ 32
 
 unfoldable pub binding_read : Reader Binding
-binding_read = two_fields (text_at 1 32 is_name_letter) (number_at w32) (λ name slot. record {
+binding_read = two_fields (text_at 1 32 is_name_byte) (number_at w32) (λ name slot. record {
   name = name;
   slot =
       slot;

@@ -3,7 +3,8 @@ ghost use Rattle.std.specs.Prelude.{◌≤◌, ◌<◌, IfOk};
 ghost use Rattle.std.specs.Int.{w16, w32, w64};
 ghost use Rattle.jlr_trace_fields.specs.Reading.{Reads, byte_at, number_at, number_within_at, signed_at};
 ghost use Rattle.jlr_trace_fields.specs.Reading.{byte_within_at};
-ghost use Rattle.jlr_trace_fields.specs.Reading.{flag_at, option_at, picked_at, bytes_at, text_at, is_name_letter};
+ghost use Rattle.jlr_trace_fields.specs.Reading.{flag_at, option_at, picked_at, bytes_at, text_at};
+ghost use Rattle.jlr_machine.specs.Names.{is_name_byte};
 
 use crate::fault::ReadError;
 use crate::number::{
@@ -166,7 +167,7 @@ pub fn take_data(alloc: Global, bytes: &mut &[u8]) -> Result<Data, ReadError>
 
 /// A text of 1 to 32 bytes, each a small letter, a digit or an underscore.
 pub fn take_name(bytes: &mut &[u8]) -> Result<Name, ReadError>
-    ensures { Reads (λ x. x) result bytes.new.now (text_at 1 32 is_name_letter bytes.old.now) }
+    ensures { Reads (λ x. x) result bytes.new.now (text_at 1 32 is_name_byte bytes.old.now) }
 {
     match name_at(bytes) {
         Ok((value, rest)) => {

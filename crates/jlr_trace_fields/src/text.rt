@@ -2,7 +2,8 @@
 ghost use Rattle.std.specs.Prelude.{◌≡◌, ◌≤◌, ◌<◌, ◌++◌, take, length, IsTrue, OnOk};
 ghost use Rattle.std.specs.List.{list_all};
 ghost use Rattle.jlr_trace_fields.specs.Spelling.{spelled_text, IsWithin};
-ghost use Rattle.jlr_trace_fields.specs.Reading.{Gives, is_name_letter, taken_at, bytes_at, text_at};
+ghost use Rattle.jlr_trace_fields.specs.Reading.{Gives, taken_at, bytes_at, text_at};
+ghost use Rattle.jlr_machine.specs.Names.{is_name_byte};
 
 use crate::fault::{Fault, ReadError};
 use crate::number::byte_within;
@@ -11,13 +12,13 @@ use jlr_machine::text::Name;
 use std::alloc::{AllocError, Global};
 
 fn is_good(byte: u8) -> bool
-    ensures { result ≡ is_name_letter byte }
+    ensures { result ≡ is_name_byte byte }
 {
     byte.is_ascii_lowercase() || byte.is_ascii_digit() || byte == b'_'
 }
 
 fn all_good(bytes: &[u8]) -> bool
-    ensures { result ≡ list_all is_name_letter bytes.now }
+    ensures { result ≡ list_all is_name_byte bytes.now }
 {
     bytes.iter().all(|&byte| is_good(byte))
 }
@@ -59,7 +60,7 @@ pub(crate) fn data_at(alloc: Global, bytes: &[u8]) -> Result<(Data, &[u8]), Read
 #[tactic(auto, unfolding(crate::specs::Reading::taken_at))]
 fn named(bytes: &[u8], count: usize) -> Result<(Name, &[u8]), ReadError>
     requires within { IsWithin 1 32 count }
-    requires good { IsTrue (list_all is_name_letter (take count bytes.now)) }
+    requires good { IsTrue (list_all is_name_byte (take count bytes.now)) }
     ensures { Gives (λ x. (x.0, x.1.now)) result (taken_at count bytes.now) }
 {
     if bytes.len() < count {
@@ -72,7 +73,7 @@ fn named(bytes: &[u8], count: usize) -> Result<(Name, &[u8]), ReadError>
 /// A name. A wrong byte is met before the end of the bytes.
 #[tactic(auto, unfolding(crate::specs::Reading::text_at))]
 pub(crate) fn name_at(bytes: &[u8]) -> Result<(Name, &[u8]), ReadError>
-    ensures { Gives (λ x. (x.0, x.1.now)) result (text_at 1 32 is_name_letter bytes.now) }
+    ensures { Gives (λ x. (x.0, x.1.now)) result (text_at 1 32 is_name_byte bytes.now) }
 {
     let (count, rest) = byte_within(1, 32, bytes)?;
     let count = count as usize;

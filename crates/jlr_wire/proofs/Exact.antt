@@ -17,7 +17,8 @@ use Rattle.jlr_wire.proofs.Splits.{split_first, split_last}
 use Rattle.jlr_wire.proofs.Laws.{complete, sound}
 use Rattle.jlr_wire.proofs.Texts.{kind_no_space, digits_no_space}
 use Rattle.std.specs.Char.{is_ascii_graphic}
-use Rattle.jlr_wire.specs.Texts.{IsPathText, IsNameText, is_name_char}
+use Rattle.jlr_wire.specs.Texts.{IsPathText, IsNameText}
+use Rattle.jlr_machine.specs.Names.{is_name_byte}
 use Rattle.jlr_device.specs.declared.device.Mode.{Mode}
 use Rattle.jlr_device.specs.declared.device.Mode.TheVariants.{Read as Reading, Write as Writing}
 use Rattle.jlr_wire.specs.Lines.{IsWithout}
@@ -79,7 +80,7 @@ path_word : (path : List ℕ) → IsPathText path → IsWithout 32 path
 path_word path h = kind_no_space is_ascii_graphic path refl h.each
 
 name_word : (name : List ℕ) → IsNameText name → IsWithout 32 name
-name_word name h = kind_no_space is_name_char name refl h.each
+name_word name h = kind_no_space is_name_byte name refl h.each
 
 mode_word : (mode : Mode) → IsWithout 32 (mode_letter mode)
 mode_word Reading = word (codes "r") refl

@@ -17,7 +17,7 @@ use Rattle.jlr_wire.proofs.Layouts.{layout_of_layout, layout_of_spells}
 use Rattle.std.specs.Char.{is_ascii_graphic}
 use Rattle.jlr_wire.proofs.Texts.{word_of_word, word_of_spells, data_of_digits, data_of_spells, count_of_decimal, count_of_spells}
 use Rattle.jlr_wire.proofs.Texts.{mode_of_letter, mode_of_spells}
-use Rattle.jlr_wire.specs.Texts.{is_name_char}
+use Rattle.jlr_machine.specs.Names.{is_name_byte}
 use Rattle.jlr_wire.specs.Fields.{number_below, byte_of, field_of, note_of, integer_of, path_of, name_of, data_of, mode_of}
 use Rattle.jlr_wire.specs.Commands.{Fields}
 use Rattle.jlr_wire.specs.Reading.{◌>>=◌, layout_of, count_of, length_of, among, names_with_word, names_with_words, names_alone}
@@ -77,9 +77,9 @@ complete (Connect path) fields f = rw (f.1, word_of_word 255 is_ascii_graphic pa
 complete (Read h n) fields f = rw (f.3, byte_of_decimal h f.0, count_of_decimal n f.1 f.2) refl
 complete (Write h bytes) fields f = rw (f.3, byte_of_decimal h f.0, data_of_digits f.1 bytes f.2) refl
 complete (Close h) fields f = rw (f.1, byte_of_decimal h f.0) refl
-complete (Bind name h) fields f = rw (f.2, word_of_word 32 is_name_char name f.0, byte_of_decimal h f.1) refl
-complete (Find name) fields f = rw (f.1, word_of_word 32 is_name_char name f.0) refl
-complete (Unbind name) fields f = rw (f.1, word_of_word 32 is_name_char name f.0) refl
+complete (Bind name h) fields f = rw (f.2, word_of_word 32 is_name_byte name f.0, byte_of_decimal h f.1) refl
+complete (Find name) fields f = rw (f.1, word_of_word 32 is_name_byte name f.0) refl
+complete (Unbind name) fields f = rw (f.1, word_of_word 32 is_name_byte name f.0) refl
 complete Names fields f = rw f refl
 complete (Full Policy) fields f = rw f refl
 complete (Full ClearAll) fields f = rw f refl
@@ -182,13 +182,13 @@ sound_connect a c e =
 sound_find : (a : List ℕ) (c : Command) → (name_of a >>= λ n. Some (Find n)) ≡ Some c → Fields c (codes "find" ∷ a ∷ [])
 sound_find a c e =
     let q = bind_some (name_of a) (λ n. Some (Find n)) c e in
-    let n = word_of_spells 32 is_name_char a q.0 q.1 in
+    let n = word_of_spells 32 is_name_byte a q.0 q.1 in
     rw (← same_Some _ _ q.2) (n.0, same_2 _ _ _ _ refl n.1)
 
 sound_unbind : (a : List ℕ) (c : Command) → (name_of a >>= λ n. Some (Unbind n)) ≡ Some c → Fields c (codes "unbind" ∷ a ∷ [])
 sound_unbind a c e =
     let q = bind_some (name_of a) (λ n. Some (Unbind n)) c e in
-    let n = word_of_spells 32 is_name_char a q.0 q.1 in
+    let n = word_of_spells 32 is_name_byte a q.0 q.1 in
     rw (← same_Some _ _ q.2) (n.0, same_2 _ _ _ _ refl n.1)
 
 sound_array : (a : List ℕ) (c : Command) → (length_of a >>= λ n. Some (Array n)) ≡ Some c → Fields c (codes "array" ∷ a ∷ [])
@@ -225,7 +225,7 @@ sound_bind : (a b : List ℕ) (c : Command) → (name_of a >>= λ n. byte_of b >
     → Fields c (codes "bind" ∷ a ∷ b ∷ [])
 sound_bind a b c e =
     let q = bind_some (name_of a) (λ n. byte_of b >>= λ h. Some (Bind n h)) c e in
-    let n = word_of_spells 32 is_name_char a q.0 q.1 in
+    let n = word_of_spells 32 is_name_byte a q.0 q.1 in
     let h = spelled (λ h. Some (Bind q.0 h)) b c q.2 in
     rw (← same_Some _ _ h.3) (n.0, h.1, same_3 _ _ _ _ _ n.1 h.2)
 

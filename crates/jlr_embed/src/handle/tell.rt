@@ -3,7 +3,8 @@ ghost use Rattle.std.specs.Prelude.{◌≡◌, ◌≤◌, false, length, true};
 ghost use Rattle.jlr_types.specs.Numbers.{number_of};
 ghost use Rattle.jlr_embed.specs.Kinds.{is_stat, is_faults, is_handle, is_integer, is_job_answer, is_names, is_notes};
 ghost use Rattle.jlr_embed.specs.Kinds.{is_lent};
-ghost use Rattle.jlr_embed.specs.Kinds.{is_refused_answer, is_told, is_truth, job_suits, suits};
+ghost use Rattle.jlr_embed.specs.Kinds.{is_told, is_truth, job_suits, suits};
+ghost use Rattle.jlr_machine.specs.Refusals.{is_refusal};
 ghost use Rattle.jlr_embed.specs.Tells.{TellsCounts, TellsEnd, TellsFault, TellsHanded, TellsHandle, TellsInteger};
 ghost use Rattle.jlr_embed.specs.Tells.{TellsJob, TellsName, TellsNote, TellsProgress, TellsToken, TellsTruth};
 ghost use Rattle.jlr_embed.specs.Tells.{TellsWork, fault_status, fault_numbered, holds_memory};
@@ -41,7 +42,7 @@ fn refused(by: Refusal) -> u32
 /// The number of the refusal that an answer is.
 #[inline(never)]
 fn refusal(answer: Answer) -> u32
-    requires { is_refused_answer answer ≡ true }
+    requires { is_refusal answer ≡ true }
     ensures { TellsEnd result answer }
 {
     match answer {

@@ -8,7 +8,8 @@ ghost use Rattle.jlr_machine.specs.declared.ask.Ask.TheVariants.{Close, Finish, 
 ghost use Rattle.jlr_machine.specs.declared.ask.Ask.TheVariants.{Notes, Faults};
 ghost use Rattle.jlr_trace_fields.specs.Reading.{Reads, one_field, two_fields, three_fields, four_fields, byte_at};
 ghost use Rattle.jlr_trace_fields.specs.Reading.{number_at};
-ghost use Rattle.jlr_trace_fields.specs.Reading.{signed_at, picked_at, text_at, is_name_letter};
+ghost use Rattle.jlr_trace_fields.specs.Reading.{signed_at, picked_at, text_at};
+ghost use Rattle.jlr_machine.specs.Names.{is_name_byte};
 ghost use Rattle.jlr_trace_fields.specs.Tables.{ref_kinds};
 ghost use Rattle.jlr_trace_entries.specs.Asks.{outcomes_by_number, modes, layout_read, call_outcome_read, field_read};
 ghost use Rattle.jlr_trace_entries.specs.Asks.{array_read};
@@ -309,7 +310,7 @@ fn finish_at(bytes: &mut &[u8]) -> Result<Ask, ReadError>
 
 fn bind_at(bytes: &mut &[u8]) -> Result<Ask, ReadError>
     ensures { Reads (λ x. x) result bytes.new.now
-        (three_fields byte_at (text_at 1 32 is_name_letter) byte_at Bind bytes.old.now) }
+        (three_fields byte_at (text_at 1 32 is_name_byte) byte_at Bind bytes.old.now) }
 {
     let mutator = take_mutator(bytes)?;
     let name = take_name(bytes)?;
@@ -323,7 +324,7 @@ fn bind_at(bytes: &mut &[u8]) -> Result<Ask, ReadError>
 
 fn find_at(bytes: &mut &[u8]) -> Result<Ask, ReadError>
     ensures { Reads (λ x. x) result bytes.new.now
-        (two_fields byte_at (text_at 1 32 is_name_letter) Find bytes.old.now) }
+        (two_fields byte_at (text_at 1 32 is_name_byte) Find bytes.old.now) }
 {
     let mutator = take_mutator(bytes)?;
     let name = take_name(bytes)?;
@@ -332,7 +333,7 @@ fn find_at(bytes: &mut &[u8]) -> Result<Ask, ReadError>
 
 fn unbind_at(bytes: &mut &[u8]) -> Result<Ask, ReadError>
     ensures { Reads (λ x. x) result bytes.new.now
-        (two_fields byte_at (text_at 1 32 is_name_letter) Unbind bytes.old.now) }
+        (two_fields byte_at (text_at 1 32 is_name_byte) Unbind bytes.old.now) }
 {
     let mutator = take_mutator(bytes)?;
     let name = take_name(bytes)?;

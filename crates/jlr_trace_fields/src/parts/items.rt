@@ -176,9 +176,10 @@ impl Written for u32 {
 }
 
 impl Item for Name {
-    ghost use Rattle.jlr_trace_fields.specs.Reading.{text_at, is_name_letter};
+    ghost use Rattle.jlr_trace_fields.specs.Reading.{text_at};
+    ghost use Rattle.jlr_machine.specs.Names.{is_name_byte};
 
-    ghost read_at = { text_at 1 32 is_name_letter };
+    ghost read_at = { text_at 1 32 is_name_byte };
 
     ghost LEAST = { 2 };
 
