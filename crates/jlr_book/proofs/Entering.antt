@@ -38,9 +38,7 @@ use Rattle.jlr_event.specs.declared.event.Reply.TheVariants.{Answered, Marked}
 use Rattle.jlr_event.specs.Asks.{hands_in}
 use Rattle.jlr_event.specs.Events.{ask_of, answer_in}
 use Rattle.jlr_core.specs.Cores.{Kept, StandsIn}
-use Rattle.jlr_core.specs.Events.{EntersLegally, carries_none}
-use Rattle.jlr_core.specs.Events.{GoesOut}
-use Rattle.jlr_core.specs.Events.{entry_of}
+use Rattle.jlr_core.specs.Events.{EntersLegally, carries_none, GoesOut, entry_of}
 use Rattle.jlr_core.specs.Steps.{IsStep}
 use Rattle.jlr_book.specs.Histories.{LeadsToCore, seated}
 use Rattle.jlr_book.specs.Lists.{fits_fast_path}

@@ -13,9 +13,7 @@ use Rattle.jlr_event.specs.declared.event.Event.{Event}
 use Rattle.jlr_event.specs.declared.event.Reply.{Reply}
 use Rattle.jlr_event.specs.declared.event.Reply.TheVariants.{Answered, Marked}
 use Rattle.jlr_event.specs.Events.{ask_of, answer_in, resource_of_event, resource_of_reply}
-use Rattle.jlr_book.specs.Cores.{Kept}
-use Rattle.jlr_book.specs.Cores.{GoesOut}
-use Rattle.jlr_book.specs.Cores.{IsStep}
+use Rattle.jlr_book.specs.Cores.{Kept, GoesOut, IsStep}
 use Rattle.jlr_book.specs.Histories.{History}
 use Rattle.jlr_book.specs.Rules.{AsksBy, BookSteps, EndsBy, StepsBy}
 use Rattle.jlr_hall.specs.Asking.{HasItsResource}

@@ -23,9 +23,7 @@ use Rattle.jlr_event.specs.declared.event.Reply.TheVariants.{Answered}
 use Rattle.jlr_event.specs.Events.{ask_of, answer_in, resource_of_event}
 use Rattle.jlr_core.specs.Runs.{AreAnswered, IsRunOf}
 use Rattle.jlr_hall.proofs.Runs.{run_more_by}
-use Rattle.jlr_book.specs.Cores.{Kept}
-use Rattle.jlr_book.specs.Cores.{EntersLegally as EntersMachine}
-use Rattle.jlr_book.specs.Cores.{IsStep}
+use Rattle.jlr_book.specs.Cores.{Kept, EntersLegally as EntersMachine, IsStep}
 use Rattle.jlr_book.specs.Histories.{History, IsHistory, empty_of, last, seated}
 use Rattle.jlr_book.specs.Rules.{AsksBy, BookSteps, Cuts, GivesUp, EndsBy, Enters, Readies, StepsBy, was_refused}
 use Rattle.jlr_book.specs.Writing.{Stands}

@@ -5,8 +5,7 @@ ghost use Rattle.jlr_embed.specs.Kinds.{is_faults, is_handle, is_integer, is_nam
 ghost use Rattle.jlr_embed.specs.Kinds.{kind_asked};
 ghost use Rattle.jlr_heap.specs.Entries.{CannotJoin, FollowsCall, HasJoined, IsDone, IsEntry, IsJoined, counts};
 ghost use Rattle.jlr_heap.specs.Entries.{told_faults};
-ghost use Rattle.jlr_heap.specs.Entries.{handle};
-ghost use Rattle.jlr_heap.specs.Entries.{handle_or_null, integer, names, notes, truth};
+ghost use Rattle.jlr_heap.specs.Entries.{handle, handle_or_null, integer, names, notes, truth};
 
 use crate::jobs::Declined;
 use crate::keeper::Keeper;

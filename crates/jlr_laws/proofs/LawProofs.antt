@@ -10,8 +10,7 @@ use Rattle.jlr_machine.specs.Collection.{IsAllowed, Clears}
 use Rattle.jlr_machine.specs.Edges.Chain.{Strong, UpToPhantom, UpToSoft}
 use Rattle.jlr_laws.specs.Laws.{IsWithinHeap, IsSeenWithin, only, BackgroundComesDownToCuttingOff, PolicyMakesFull}
 use Rattle.jlr_laws.specs.Laws.{KeepingNoneMakesClearing, RoundsFindWhatPathsReach, ClearsAsSpecified, RefersByKind}
-use Rattle.jlr_laws.specs.Laws.{EachClearingIsAsSpecified}
-use Rattle.jlr_laws.specs.Laws.{LeavesWhatItsStepsLeave, ComesDownToCuttingOff, SoftReferencesGoBeforeAFullHeap}
+use Rattle.jlr_laws.specs.Laws.{EachClearingIsAsSpecified, LeavesWhatItsStepsLeave, ComesDownToCuttingOff, SoftReferencesGoBeforeAFullHeap}
 use Rattle.jlr_laws.proofs.Paths.{AreEdgesWithin, reached_sound, reached_complete}
 use Rattle.jlr_laws.proofs.Clearing.{edge_from, cleared_or_kept, same_some, in_append, in_left, in_right}
 use Rattle.jlr_laws.proofs.Agree.{narrow, agrees, at_base, decided_reachable, drop_decided, IsDropped, within_after}

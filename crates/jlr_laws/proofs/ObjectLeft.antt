@@ -16,12 +16,10 @@ use Rattle.jlr_machine.specs.Objects.{Heap, ◌∋◌, ◌∈◌, is_distinct, a
 use Rattle.jlr_machine.specs.Objects.{any_referent, is_spent, is_unqueued}
 use Rattle.jlr_machine.specs.Edges.{strong_edges, is_own_root}
 use Rattle.jlr_machine.specs.Collection.{is_ready, referent_if_kept, left_of, places_left}
-use Rattle.jlr_machine.specs.WellFormed.{FitsItsState}
-use Rattle.jlr_machine.specs.WellFormed.{is_unspent_place}
+use Rattle.jlr_machine.specs.WellFormed.{FitsItsState, is_unspent_place}
 use Rattle.jlr_laws.proofs.Sets.{in_front}
 use Rattle.jlr_laws.proofs.Clearing.{in_append, in_right, same_some}
-use Rattle.jlr_laws.proofs.Frames.{no_some, some_same}
-use Rattle.jlr_laws.proofs.Frames.{fresh_unqueued}
+use Rattle.jlr_laws.proofs.Frames.{no_some, some_same, fresh_unqueued}
 use Rattle.jlr_laws.proofs.ObjectsKept.{IsPendingKind}
 
 -- ---- Lists

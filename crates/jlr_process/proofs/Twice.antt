@@ -22,8 +22,7 @@ use Rattle.jlr_marks.specs.Marking.{Marking, IsMarked, is_marked}
 use Rattle.jlr_marks.proofs.Shading.{marked_within}
 use Rattle.jlr_process.specs.Settling.{SettlesSlots, cleared, cleared_graph, is_losing, kept_if_marked, loses, marked_referent}
 use Rattle.jlr_process.specs.Settling.{newly_pending}
-use Rattle.jlr_process.specs.Settling.{only_if}
-use Rattle.jlr_process.specs.Settling.{settled, settled_object}
+use Rattle.jlr_process.specs.Settling.{only_if, settled, settled_object}
 use Rattle.jlr_process.proofs.Whole.{losing_is_marked, losing_loses, same_bool}
 
 -- ---- An object that was settled

@@ -7,8 +7,7 @@ ghost use Rattle.jlr_cells.specs.Contents.{kind_of};
 ghost use Rattle.jlr_machine.specs.Collection.{is_ready};
 ghost use Rattle.jlr_machine.specs.Choices.{collecting, kept_by, pended_by};
 ghost use Rattle.jlr_marks.specs.Marking.{IsMarked, is_marked};
-ghost use Rattle.jlr_process.specs.Settling.{cleared_graph, newly_pending, is_losing, loses, only_if};
-ghost use Rattle.jlr_process.specs.Settling.{with_settled};
+ghost use Rattle.jlr_process.specs.Settling.{cleared_graph, newly_pending, is_losing, loses, only_if, with_settled};
 
 use jlr_barrier::Heap;
 use jlr_cells::Kind;

@@ -28,8 +28,7 @@ use Rattle.jlr_session.specs.Asks.{room_prepared, prepared_by, out_with, out_by,
 use Rattle.jlr_book.specs.Histories.{History}
 use Rattle.jlr_book.specs.Rules.{BookSteps}
 use Rattle.jlr_prog.specs.Solos.{at_book}
-use Rattle.jlr_book.specs.Histories.{cleaner_seat}
-use Rattle.jlr_book.specs.Histories.{handler_seat}
+use Rattle.jlr_book.specs.Histories.{cleaner_seat, handler_seat}
 use Rattle.jlr_prog.specs.Wholes.{WholeRun, WholeSteps, at_whole}
 use Rattle.jlr_prog.proofs.Staying.{Stays, entry_stays, hand_over_stays, take_up_stays, finish_stays}
 use Rattle.jlr_prog.proofs.Calls.{IsHere, WasRefused, BeginsToOpen, BeginsToCall, BeginsToWork, prepare_begins, check_out_begins}

@@ -32,9 +32,7 @@ use Rattle.jlr_machine.specs.declared.ask.Ask.TheVariants as ask
 use Rattle.jlr_event.specs.declared.event.Reply.{Reply}
 use Rattle.jlr_event.specs.declared.event.Reply.TheVariants.{Answered, Marked}
 use Rattle.jlr_event.specs.Events.{ask_of, answer_in}
-use Rattle.jlr_book.specs.Cores.{entry_of}
-use Rattle.jlr_book.specs.Cores.{Kept, StandsIn}
-use Rattle.jlr_book.specs.Cores.{Steps}
+use Rattle.jlr_book.specs.Cores.{entry_of, Kept, StandsIn, Steps}
 use Rattle.jlr_book.specs.Histories.{History, IsHistory}
 use Rattle.jlr_book.specs.Rules.{AsksBy, BookSteps, Cuts, EndsBy, GivesUp, Readies, StepsBy, was_refused}
 use Rattle.jlr_prog.specs.Settling.{HandsOver}

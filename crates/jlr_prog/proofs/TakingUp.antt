@@ -35,8 +35,7 @@ use Rattle.jlr_machine.specs.declared.ask.Ask.TheVariants as ask
 use Rattle.jlr_event.specs.declared.event.Reply.{Reply}
 use Rattle.jlr_event.specs.declared.event.Reply.TheVariants.{Answered, Marked}
 use Rattle.jlr_event.specs.Events.{answer_in, ask_of, outcome_of}
-use Rattle.jlr_book.specs.Cores.{entry_of}
-use Rattle.jlr_book.specs.Cores.{Kept}
+use Rattle.jlr_book.specs.Cores.{entry_of, Kept}
 use Rattle.jlr_device.specs.Handling.{Handling}
 use Rattle.jlr_session.specs.Asks.{job_by, job_with, TellsFinished}
 use Rattle.jlr_book.specs.Histories.{History, IsHistory}

@@ -4,8 +4,7 @@ use Rattle.jlr_session.specs.Asks.{Asking}
 use Rattle.jlr_book.specs.Histories.{History}
 use Rattle.jlr_book.specs.Rules.{BookSteps}
 use Rattle.jlr_prog.specs.Settling.{Helpers, Settles}
-use Rattle.jlr_book.specs.Histories.{handler_seat}
-use Rattle.jlr_book.specs.Histories.{cleaner_seat}
+use Rattle.jlr_book.specs.Histories.{handler_seat, cleaner_seat}
 
 -- the handler and the cleaner of a book
 abbrev pub at_book : {R : Type 0} → Helpers (History R) R

@@ -12,8 +12,7 @@ use Rattle.jlr_device.specs.Handling.{Handling}
 use Rattle.jlr_session.specs.Asks.{Asking}
 use Rattle.jlr_book.specs.Rules.{BookSteps}
 use Rattle.jlr_prog.specs.Settling.{Helpers, Settles}
-use Rattle.jlr_book.specs.Histories.{cleaner_seat}
-use Rattle.jlr_book.specs.Histories.{handler_seat}
+use Rattle.jlr_book.specs.Histories.{cleaner_seat, handler_seat}
 
 pub record WholeRun (R : Type 0) : Type 0 where
   pub book : History R

@@ -11,8 +11,7 @@ use Rattle.jlr_trace_fields.specs.declared.fault.Fault.{Fault}
 use Rattle.jlr_trace_fields.specs.declared.fault.Fault.TheVariants.{Short, Range}
 use Rattle.jlr_trace_fields.specs.Reading.{byte_at, byte_within_at, flag_at, option_at, number_at, number_within_at, picked_at}
 use Rattle.jlr_trace_fields.specs.Reading.{value_by_number}
-use Rattle.jlr_trace_fields.specs.Reading.{text_at}
-use Rattle.jlr_trace_fields.specs.Reading.{bytes_at, taken_at, signed_at}
+use Rattle.jlr_trace_fields.specs.Reading.{text_at, bytes_at, taken_at, signed_at}
 use Rattle.jlr_trace_fields.specs.Spelling.{spelled_8, spelled_32, spelled_flag, spelled_option, spelled_signed, spelled_text, no_slot}
 use Rattle.jlr_trace_fields.specs.Spelling.{IsBytes}
 use Rattle.jlr_trace_fields.specs.Spelling.{IsWithin, IsSigned, SlotFits, IsText, IsTextOf}

@@ -22,8 +22,7 @@ use Rattle.jlr_wire.specs.Fields.{number_below, byte_of, field_of, note_of, inte
 use Rattle.jlr_wire.specs.Commands.{Fields}
 use Rattle.jlr_wire.specs.Reading.{◌>>=◌, layout_of, count_of, length_of, among, names_with_word, names_with_words, names_alone}
 use Rattle.jlr_wire.specs.Reading.{names_with_number, names_with_two, command_named, with_number, with_two_numbers, reading_1, reading_2}
-use Rattle.jlr_wire.specs.Reading.{reading_3}
-use Rattle.jlr_wire.specs.Reading.{reading_4, reading}
+use Rattle.jlr_wire.specs.Reading.{reading_3, reading_4, reading}
 use Rattle.jlr_machine.specs.declared.ask.FullMode.TheVariants.{Policy, ClearAll}
 use Rattle.jlr_wire.specs.declared.command.Command.{Command}
 use Rattle.jlr_wire.specs.declared.command.Command.TheVariants.{New, Put, Get, SetInt, Int, Dup, Drop, Same, Soft, Weak, Phantom, Deref}

@@ -11,8 +11,7 @@ ghost use Rattle.jlr_book.specs.Histories.{IsHistory, IsNewBook};
 ghost use Rattle.jlr_book.specs.Rules.{BookSteps};
 ghost use Rattle.jlr_prog.specs.Settling.{CannotHandOver, CleansUp, HandsAllOver, HandsOver, Works};
 ghost use Rattle.jlr_prog.specs.Solos.{at_book, by_book};
-ghost use Rattle.jlr_book.specs.Histories.{cleaner_seat};
-ghost use Rattle.jlr_book.specs.Histories.{handler_seat};
+ghost use Rattle.jlr_book.specs.Histories.{cleaner_seat, handler_seat};
 ghost use Rattle.jlr_prog.specs.OneTurn.{IsTurn, turn_by};
 
 use jlr_book::book::Book;

@@ -1,7 +1,6 @@
 use Rattle.std.proofs.Common.{arith}
 use Rattle.jlr_state.specs.Machines.{machine_of}
-use Rattle.jlr_state.proofs.Clearings.{makes_room}
-use Rattle.jlr_state.proofs.Clearings.{none_chosen}
+use Rattle.jlr_state.proofs.Clearings.{makes_room, none_chosen}
 use Rattle.jlr_state.proofs.state.State.make_room.Goals as goal
 
 pub returns-then-vacant_count-cells-clause-made : goal.returns-then-vacant_count-cells-clause-made
