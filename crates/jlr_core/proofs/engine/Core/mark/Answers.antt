@@ -7,6 +7,8 @@ use Rattle.jlr_event.specs.declared.event.Event.TheVariants.{Mark}
 use Rattle.jlr_event.specs.declared.event.Reply.TheVariants.{Marked}
 use Rattle.jlr_state.specs.Machines.{machine_of}
 use Rattle.jlr_state.specs.Waiting.{AllWait}
+use Rattle.jlr_event.specs.declared.event.Event.{Event}
+use Rattle.jlr_event.specs.declared.event.Reply.{Reply}
 use Rattle.jlr_core.specs.Cores.{Kept}
 use Rattle.jlr_core.specs.Dispatch.{StepsState}
 use Rattle.jlr_core.specs.Steps.{IsStep}
@@ -26,8 +28,8 @@ returns-clause-step g c =
     let old = c.self.inside.state in
     let new = c.mark.new.self in
     let did = c.mark.ensures in
-    let event = Mark {R = g.row.R.Denot} c.args.budget in
-    let reply = Marked {R = g.row.R.Denot} c.mark.result in
+    let event : Event g.row.R.Denot = Mark c.args.budget in
+    let reply : Reply g.row.R.Denot = Marked c.mark.result in
     let rest : StepsState old event None no_choice None new =
     record {
       flow = search rules;
