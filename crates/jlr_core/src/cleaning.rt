@@ -99,10 +99,10 @@ fn check_register<R>(
         (λ r. (note : ℕ) → refusal (machine_of state.now) (Ask.Register by cleaner object note) ≡ Some r) }
 {
     state.check_session(by)?;
-    state.check_handle(by, cleaner)?;
-    state.check_handle(by, object)?;
-    let cleaner = state.check_slot(by, cleaner)?;
-    let target = state.check_slot(by, object)?;
+    let cleaner = state.check_handle(by, cleaner)?;
+    let target = state.check_handle(by, object)?;
+    let cleaner = cleaner.ok_or(Refusal::Null)?;
+    let target = target.ok_or(Refusal::Null)?;
     check_cleaner(state, cleaner)?;
     state.check_no_call(by)?;
     state.check_free_handle(by)?;
@@ -164,8 +164,7 @@ fn check_clean<R>(state: &State<R>, by: Mutator, cleanable: Handle) -> Result<Sl
         (λ r. refusal (machine_of state.now) (Ask.Clean by cleanable) ≡ Some r) }
 {
     state.check_session(by)?;
-    state.check_handle(by, cleanable)?;
-    let slot = state.check_slot(by, cleanable)?;
+    let slot = state.check_object(by, cleanable)?;
     check_cleanable(state, slot)?;
     state.check_no_call(by)?;
     Ok(slot)

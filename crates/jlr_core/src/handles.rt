@@ -46,8 +46,7 @@ pub(crate) fn drop_handle<R>(
     ensures marking { state.new.heap.marking ≡ state.old.heap.marking }
 {
     state.check_session(by)?;
-    state.check_handle(by, object)?;
-    state.check_slot(by, object)?;
+    state.check_object(by, object)?;
     state.check_no_call(by)?;
     state.heap.drop_handle(by, object);
     Ok(Answer::Done)
@@ -59,14 +58,14 @@ pub(crate) fn same<R>(
     left: Handle,
     right: Handle,
 ) -> Result<Answer, Refusal>
+    requires { IsWellFormed (machine_of state.now) }
     ensures { Answered (machine_of state.now) (Ask.Same by left right) result (machine_of state.now) }
 {
     state.check_session(by)?;
-    state.check_handle(by, left)?;
-    state.check_handle(by, right)?;
+    let left = state.check_handle(by, left)?;
+    let right = state.check_handle(by, right)?;
     state.check_no_call(by)?;
-    let same = state.heap.lookup(by, left) == state.heap.lookup(by, right);
-    Ok(Answer::Truth(same))
+    Ok(Answer::Truth(left == right))
 }
 
 pub(crate) fn dup<R>(state: &mut State<R>, by: Mutator, object: Handle) -> Result<Answer, Refusal>
@@ -76,8 +75,7 @@ pub(crate) fn dup<R>(state: &mut State<R>, by: Mutator, object: Handle) -> Resul
     ensures marking { state.new.heap.marking ≡ state.old.heap.marking }
 {
     state.check_session(by)?;
-    state.check_handle(by, object)?;
-    let slot = state.check_slot(by, object)?;
+    let slot = state.check_object(by, object)?;
     state.check_no_call(by)?;
     state.check_free_handle(by)?;
     Ok(state.give(by, slot))

@@ -55,8 +55,7 @@ fn check_bind<R>(
         (λ r. refusal (machine_of state.now) (Ask.Bind by name.now object) ≡ Some r) }
 {
     state.check_session(by)?;
-    state.check_handle(by, object)?;
-    let slot = state.check_slot(by, object)?;
+    let slot = state.check_object(by, object)?;
     state.check_no_call(by)?;
     check_room_for_name(state, name)?;
     Ok(slot)

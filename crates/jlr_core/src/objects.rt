@@ -77,8 +77,7 @@ pub(crate) fn get<R>(
     ensures marking { state.new.heap.marking ≡ state.old.heap.marking }
 {
     state.check_session(by)?;
-    state.check_handle(by, object)?;
-    let slot = state.check_slot(by, object)?;
+    let slot = state.check_object(by, object)?;
     check_plain(state, slot)?;
     let target = check_reference_field(state, slot, field)?;
     state.check_no_call(by)?;
@@ -100,13 +99,12 @@ pub(crate) fn put<R>(
         state.new.heap.marking }
 {
     state.check_session(by)?;
-    state.check_handle(by, object)?;
-    state.check_handle(by, value)?;
-    let slot = state.check_slot(by, object)?;
+    let named = state.check_handle(by, object)?;
+    let target = state.check_handle(by, value)?;
+    let slot = named.ok_or(Refusal::Null)?;
     check_plain(state, slot)?;
     check_reference_field(state, slot, field)?;
     state.check_no_call(by)?;
-    let target = state.heap.lookup(by, value);
     state
         .heap
         .store(slot, field.number() as usize, FieldValue::Ref(target));
@@ -141,8 +139,7 @@ pub(crate) fn int<R>(
     ensures memory { answer_of result ≡ Answer.Refused Refusal.NoMemory → ⊥ }
 {
     state.check_session(by)?;
-    state.check_handle(by, object)?;
-    let slot = state.check_slot(by, object)?;
+    let slot = state.check_object(by, object)?;
     check_record(state, slot)?;
     let number = check_int_field(state, slot, field)?;
     state.check_no_call(by)?;
@@ -165,8 +162,7 @@ pub(crate) fn set_int<R>(
         state.new.heap.marking }
 {
     state.check_session(by)?;
-    state.check_handle(by, object)?;
-    let slot = state.check_slot(by, object)?;
+    let slot = state.check_object(by, object)?;
     check_record(state, slot)?;
     check_int_field(state, slot, field)?;
     state.check_no_call(by)?;

@@ -1,10 +1,10 @@
 //! The asks on references and queues, and the handler's.
-ghost use Rattle.std.specs.Prelude.{◌≡◌, ◌&&◌, ◌==◌, ◌≤◌, IsTrue, MatchResult, None, Ok, Some, false, true, is_none};
-ghost use Rattle.std.specs.Prelude.{is_some, length, not};
+ghost use Rattle.std.specs.Prelude.{◌≡◌, ◌&&◌, ◌≤◌, IsTrue, MatchResult, None, Ok, Some, false, is_none};
+ghost use Rattle.std.specs.Prelude.{ℕ, is_some, length, not, option_and_then, true};
 ghost use Rattle.jlr_machine.specs.Objects.{at, some_and};
 ghost use Rattle.jlr_cells.specs.Contents.{member_in};
-ghost use Rattle.jlr_machine.specs.Lookups.{has_free_handle, object_named, slot_named};
-ghost use Rattle.jlr_machine.specs.Refusals.{refusal, is_of_wrong_kind, is_queue, is_reference, object_or_null};
+ghost use Rattle.jlr_machine.specs.Lookups.{has_free_handle, slot_named};
+ghost use Rattle.jlr_machine.specs.Refusals.{refusal, is_queue, is_reference};
 ghost use Rattle.jlr_machine.specs.Run.{no_choice};
 ghost use Rattle.jlr_machine.specs.Choices.{nothing_chosen};
 ghost use Rattle.jlr_machine.specs.WellFormed.{IsWellFormed};
@@ -46,23 +46,18 @@ fn check_queue<R>(state: &State<R>, slot: Slot) -> Result<(), Refusal>
     }
 }
 
-/// A queue, or null.
-fn check_queue_or_null<R>(
-    state: &State<R>,
-    by: Mutator,
-    queue: Handle,
-) -> Result<Option<Slot>, Refusal>
-    requires fit { IsWellFormed (machine_of state.now) }
-    requires in_use { (not (queue == 0) && is_none (slot_named (machine_of state.now) by queue)) ≡ false }
+/// There is a queue at a slot, if there is a slot.
+fn check_queue_or_null<R>(state: &State<R>, slot: Option<Slot>) -> Result<Option<Slot>, Refusal>
+    requires { (s : ℕ) → slot ≡ Some s → IsTrue (is_some (at state.now.heap.graph.objects s)) }
     ensures { MatchResult result
-        (λ slot. (slot_named (machine_of state.now) by queue ≡ slot)
-        × (some_and (λ o. not (is_queue o)) (object_named (machine_of state.now) by queue) ≡ false))
+        (λ queue. (queue ≡ slot)
+        × (some_and (λ o. not (is_queue o)) (option_and_then (at state.now.heap.graph.objects) slot) ≡ false))
         (λ r. (r ≡ Refusal.WrongKind)
-        × (is_of_wrong_kind (machine_of state.now) by (object_or_null queue is_queue) ≡ true)) }
+        × (some_and (λ o. not (is_queue o)) (option_and_then (at state.now.heap.graph.objects) slot) ≡ true)) }
 {
-    match state.heap.lookup(by, queue) {
+    match slot {
         None => Ok(None),
-        Some(slot) if state.heap.is_queue(slot) => Ok(Some(slot)),
+        Some(queue) if state.heap.is_queue(queue) => Ok(Some(queue)),
         Some(_) => Err(Refusal::WrongKind),
     }
 }
@@ -83,8 +78,7 @@ pub(crate) fn deref<R>(
         state.new.heap.marking }
 {
     state.check_session(by)?;
-    state.check_handle(by, reference)?;
-    let slot = state.check_slot(by, reference)?;
+    let slot = state.check_object(by, reference)?;
     check_reference(state, slot)?;
     state.check_no_call(by)?;
     handles::check_room_for(state, by, state.heap.gotten(slot))?;
@@ -103,12 +97,11 @@ pub(crate) fn refers<R>(
     ensures memory { answer_of result ≡ Answer.Refused Refusal.NoMemory → ⊥ }
 {
     state.check_session(by)?;
-    state.check_handle(by, reference)?;
-    state.check_handle(by, object)?;
-    let slot = state.check_slot(by, reference)?;
+    let named = state.check_handle(by, reference)?;
+    let target = state.check_handle(by, object)?;
+    let slot = named.ok_or(Refusal::Null)?;
     check_reference(state, slot)?;
     state.check_no_call(by)?;
-    let target = state.heap.lookup(by, object);
     Ok(Answer::Truth(jlr_refs::refers_to(&state.heap, slot, target)))
 }
 
@@ -123,8 +116,7 @@ pub(crate) fn clear<R>(
     ensures marking { state.new.heap.marking ≡ state.old.heap.marking }
 {
     state.check_session(by)?;
-    state.check_handle(by, reference)?;
-    let slot = state.check_slot(by, reference)?;
+    let slot = state.check_object(by, reference)?;
     check_reference(state, slot)?;
     state.check_no_call(by)?;
     jlr_refs::clear(&mut state.heap, slot);
@@ -141,8 +133,7 @@ fn check_enqueue<R>(state: &State<R>, by: Mutator, reference: Handle) -> Result<
         (λ r. refusal (machine_of state.now) (Ask.Enqueue by reference) ≡ Some r) }
 {
     state.check_session(by)?;
-    state.check_handle(by, reference)?;
-    let slot = state.check_slot(by, reference)?;
+    let slot = state.check_object(by, reference)?;
     check_reference(state, slot)?;
     state.check_no_call(by)?;
     Ok(slot)
@@ -172,8 +163,7 @@ pub(crate) fn enqueued<R>(
     ensures { Answered (machine_of state.now) (Ask.Enqueued by reference) result (machine_of state.now) }
 {
     state.check_session(by)?;
-    state.check_handle(by, reference)?;
-    let slot = state.check_slot(by, reference)?;
+    let slot = state.check_object(by, reference)?;
     check_reference(state, slot)?;
     state.check_no_call(by)?;
     Ok(Answer::Truth(jlr_refs::is_enqueued(&state.heap, slot)))
@@ -191,8 +181,7 @@ fn check_poll<R>(state: &State<R>, by: Mutator, queue: Handle) -> Result<Slot, R
         (λ r. refusal (machine_of state.now) (Ask.Poll by queue) ≡ Some r) }
 {
     state.check_session(by)?;
-    state.check_handle(by, queue)?;
-    let slot = state.check_slot(by, queue)?;
+    let slot = state.check_object(by, queue)?;
     check_queue(state, slot)?;
     state.check_no_call(by)?;
     handles::check_room_for(state, by, state.heap.front(slot))?;
@@ -223,8 +212,7 @@ pub(crate) fn check_remove<R>(state: &State<R>, by: Mutator, queue: Handle) -> R
         (λ r. refusal (machine_of state.now) (Ask.Remove by queue) ≡ Some r) }
 {
     state.check_session(by)?;
-    state.check_handle(by, queue)?;
-    let slot = state.check_slot(by, queue)?;
+    let slot = state.check_object(by, queue)?;
     check_queue(state, slot)?;
     state.check_no_call(by)?;
     let front = state.heap.front(slot);
@@ -300,10 +288,10 @@ pub(crate) fn make_reference<R>(
         state.new.heap.marking }
 {
     state.check_session(by)?;
-    state.check_handle(by, referent)?;
-    state.check_handle(by, queue)?;
-    let target = state.check_slot(by, referent)?;
-    let queue = check_queue_or_null(state, by, queue)?;
+    let named = state.check_handle(by, referent)?;
+    let ahead = state.check_handle(by, queue)?;
+    let target = named.ok_or(Refusal::Null)?;
+    let queue = check_queue_or_null(state, ahead)?;
     state.check_no_call(by)?;
     state.check_free_handle(by)?;
     let shape = Shape::Reference {

@@ -4,7 +4,7 @@ use Rattle.std.specs.Prelude.{Ok, Err, MatchResult}
 use Rattle.jlr_types.specs.declared.FieldValue.{FieldValue}
 use Rattle.jlr_types.specs.declared.FieldValue.TheVariants.{Int, Ref}
 use Rattle.jlr_types.specs.declared.Refusal.{Refusal}
-use Rattle.jlr_types.specs.declared.Refusal.TheVariants.{NoField, WrongType}
+use Rattle.jlr_types.specs.declared.Refusal.TheVariants.{NoField, NoHandle, Null, WrongType}
 use Rattle.jlr_machine.specs.declared.machine.Machine.{Machine}
 use Rattle.jlr_machine.specs.declared.ask.Ask.{Ask}
 use Rattle.jlr_machine.specs.declared.ask.Answer.{Answer}
@@ -71,6 +71,12 @@ MeetsAsk m marking ask answer chosen n =
 abbrev pub Answered : Machine → Ask → Result Answer Refusal → Machine → Type 0
 Answered m ask (Ok a) n = (refusal m ask ≡ None) × (reply m ask ≡ Some a) × (n ≡ after m ask a [])
 Answered m ask (Err r) n = (refusal m ask ≡ Some r) × (n ≡ m)
+
+-- a handle of an object is refused: it is null, or not in use
+abbrev pub HandleRefused : Bool → Option ℕ → Refusal → Type 0
+HandleRefused true slot r = r ≡ Null
+HandleRefused false None r = r ≡ NoHandle
+HandleRefused false (Some s) r = ⊥
 
 -- a field is refused: there is none, or it holds an integer
 abbrev pub FieldRefused : Option FieldValue → Refusal → Type 0

@@ -243,8 +243,7 @@ impl<R> State<R> {
             (λ r. refusal (machine_of self.now) (Ask.CheckOut by guard) ≡ Some r) }
     {
         self.check_session(by)?;
-        self.check_handle(by, guard)?;
-        let slot = self.check_slot(by, guard)?;
+        let slot = self.check_object(by, guard)?;
         let guard = self.check_guard(slot)?;
         if self.is_closed(guard.cleanable) {
             return Err(Refusal::Closed);
@@ -335,8 +334,7 @@ impl<R> State<R> {
             (λ r. refusal (machine_of self.now) (Ask.Close by guard) ≡ Some r) }
     {
         self.check_session(by)?;
-        self.check_handle(by, guard)?;
-        let slot = self.check_slot(by, guard)?;
+        let slot = self.check_object(by, guard)?;
         let guard = self.check_guard(slot)?;
         if self.is_busy(guard.cleanable, guard.rid) {
             return Err(Refusal::Busy);

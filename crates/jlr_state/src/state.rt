@@ -1,5 +1,5 @@
 //! What the core keeps, as the machine has it, and the checks of refusals that many asks share.
-ghost use Rattle.jlr_state.specs.State.{Checks};
+ghost use Rattle.jlr_state.specs.State.{Checks, HandleRefused};
 ghost use Rattle.std.specs.Prelude.{◌≡◌, ◌≤◌, [], None, Some, Ok, Err, MatchResult, IfOk, replicate, true, false, not};
 ghost use Rattle.std.specs.Prelude.{is_none, is_some, ◌&&◌, ◌==◌, OnOk, IsTrue};
 ghost use Rattle.jlr_machine.specs.WellFormed.{IsWellFormed};
@@ -142,32 +142,41 @@ impl<R> State<R> {
         }
     }
 
-    /// A handle is null or in use.
-    pub fn check_handle(&self, by: Mutator, handle: Handle) -> Result<(), Refusal>
-        ensures { Checks result Refusal.NoHandle
-            (not (handle == 0) && is_none (slot_named (machine_of self.now) by handle)) }
+    /// The slot of a handle that is null or in use. None where it is null.
+    pub fn check_handle(&self, by: Mutator, handle: Handle) -> Result<Option<Slot>, Refusal>
+        requires { IsWellFormed (machine_of self.now) }
+        ensures { MatchResult result
+            (λ slot. (slot_named (machine_of self.now) by handle ≡ slot)
+            × ((not (handle == 0) && is_none (slot_named (machine_of self.now) by handle)) ≡ false)
+            × ((handle == 0) ≡ is_none slot))
+            (λ r. (r ≡ Refusal.NoHandle)
+            × ((not (handle == 0) && is_none (slot_named (machine_of self.now) by handle)) ≡ true)) }
     {
-        if handle.number() == 0 || self.heap.lookup(by, handle).is_some() {
-            Ok(())
-        } else {
-            Err(Refusal::NoHandle)
+        if handle.number() == 0 {
+            return Ok(None);
+        }
+        match self.heap.lookup(by, handle) {
+            Some(slot) => Ok(Some(slot)),
+            None => Err(Refusal::NoHandle),
         }
     }
 
-    /// The slot of a handle that is in use, which is not null. There is an object.
-    pub fn check_slot(&self, by: Mutator, handle: Handle) -> Result<Slot, Refusal>
+    /// The slot of a handle that is in use. There is an object.
+    pub fn check_object(&self, by: Mutator, handle: Handle) -> Result<Slot, Refusal>
         requires fit { IsWellFormed (machine_of self.now) }
-        requires in_use { (not (handle == 0) && is_none (slot_named (machine_of self.now) by handle)) ≡ false }
         ensures object { OnOk result (IsTrue (is_some (object_named (machine_of self.now) by handle))) }
-        ensures slot { MatchResult result (λ slot. (slot_named (machine_of self.now) by handle ≡ Some slot)
-            × ((handle == 0) ≡ false)) (λ r. (r ≡ Refusal.Null) × ((handle == 0) ≡ true)) }
+        ensures in_use { OnOk result
+            ((not (handle == 0) && is_none (slot_named (machine_of self.now) by handle)) ≡ false) }
+        ensures slot { MatchResult result
+            (λ slot. (slot_named (machine_of self.now) by handle ≡ Some slot) × ((handle == 0) ≡ false))
+            (λ r. HandleRefused (handle == 0) (slot_named (machine_of self.now) by handle) r) }
     {
         if handle.number() == 0 {
             return Err(Refusal::Null);
         }
         match self.heap.lookup(by, handle) {
             Some(slot) => Ok(slot),
-            None => Err(Refusal::Null),
+            None => Err(Refusal::NoHandle),
         }
     }
 

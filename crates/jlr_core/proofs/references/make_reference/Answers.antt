@@ -1,8 +1,11 @@
-use Rattle.std.proofs.Common.{Some, inl, inr, sym, subst, refl, ◌∙◌}
+use Rattle.std.proofs.Common.{ap, is_none, not, option_and_then, Some, inl, inr, sym, subst, refl, ◌∙◌}
 use Rattle.std.specs.Option.{option_to_list}
 use Rattle.jlr_machine.specs.declared.ask.Ask.TheVariants.{MakeRef}
 use Rattle.jlr_machine.specs.declared.ask.Answer.TheVariants.{Refused}
+use Rattle.jlr_machine.specs.Objects.{at, some_and}
+use Rattle.jlr_machine.specs.Refusals.{is_queue}
 use Rattle.jlr_state.specs.Machines.{machine_of}
+use Rattle.jlr_state.proofs.Named.{named_object}
 use Rattle.jlr_state.specs.State.{Meets}
 use Rattle.jlr_state.proofs.Entries.{meets_full, meets_new_reference, allowed_reference}
 use Rattle.jlr_laws.proofs.Clearing.{in_append, in_option}
@@ -18,8 +21,9 @@ returns-in-Err-clause-meets g c =
     let n = machine_of c.allocate.new.self in
     let ask = MakeRef c.args.by c.args.kind c.args.referent c.args.queue in
     let allowed = allowed_reference m c.args.by c.args.kind c.args.referent c.args.queue c.in_ok-check_session.ensures
-    c.in_ok-check_handle.ensures c.in_ok-check_handle-2.ensures c.in_ok-target.ensures.slot.1 c.in_ok-queue.ensures.1
-    c.in_ok-check_no_call.ensures c.in_ok-check_free_handle.ensures in
+    c.in_ok-named.ensures.1 c.in_ok-ahead.ensures.1 (c.in_ok-named.ensures.2 ∙ ap is_none c.in_ok-target.ensures.ok_part)
+    (ap (λ o. some_and (λ x. not (is_queue x)) (option_and_then (at m.objects) o)) c.in_ok-ahead.ensures.0
+    ∙ c.in_ok-queue.ensures.1) c.in_ok-check_no_call.ensures c.in_ok-check_free_handle.ensures in
     subst (λ r. Meets m ask (Refused r) c.allocate.new.choice.chosen n) (sym c.in-Err.ensures.full.0)
     (meets_full m 1 ask c.allocate.new.choice n allowed refl c.in-Err.ensures.full.1)
 
@@ -27,19 +31,28 @@ pub returns-in-Ok-clause-meets : goal.returns-in-Ok-clause-meets
 returns-in-Ok-clause-meets g c =
     let m = machine_of c.args.state.now in
     let allowed = allowed_reference m c.args.by c.args.kind c.args.referent c.args.queue c.in_ok-check_session.ensures
-    c.in_ok-check_handle.ensures c.in_ok-check_handle-2.ensures c.in_ok-target.ensures.slot.1 c.in_ok-queue.ensures.1
-    c.in_ok-check_no_call.ensures c.in_ok-check_free_handle.ensures in
+    c.in_ok-named.ensures.1 c.in_ok-ahead.ensures.1 (c.in_ok-named.ensures.2 ∙ ap is_none c.in_ok-target.ensures.ok_part)
+    (ap (λ o. some_and (λ x. not (is_queue x)) (option_and_then (at m.objects) o)) c.in_ok-ahead.ensures.0
+    ∙ c.in_ok-queue.ensures.1) c.in_ok-check_no_call.ensures c.in_ok-check_free_handle.ensures in
     meets_new_reference m (machine_of c.allocate.new.self) (machine_of c.give.new.self) c.args.by c.in-Ok.slot c.args.kind c.args.referent
     c.args.queue c.in_ok-target.target c.in_ok-queue.queue c.allocate.new.choice c.give.result allowed
-    c.in_ok-target.ensures.slot.0 c.in_ok-queue.ensures.0 c.in-Ok.ensures.allocates c.give.ensures.answer c.give.ensures.held
+    (c.in_ok-named.ensures.0 ∙ c.in_ok-target.ensures.ok_part) (c.in_ok-ahead.ensures.0 ∙ sym c.in_ok-queue.ensures.0)
+    c.in-Ok.ensures.allocates c.give.ensures.answer c.give.ensures.held
+
+-- there is an object at the slot of its queue
+pub check_queue_or_null-requires : goal.check_queue_or_null-requires
+check_queue_or_null-requires g c = λ s e.
+    named_object (machine_of c.args.state.now) c.args.by c.args.queue s c.requires.fit (c.in_ok-ahead.ensures.0 ∙ e)
 
 -- handles name its queue and its referent
 pub allocate-requires-clause-held : goal.allocate-requires-clause-held
 allocate-requires-clause-held g c =
     let m = machine_of c.args.state.now in
     λ s h. elim (in_append s (option_to_list c.in_ok-queue.queue) (option_to_list (Some c.in_ok-target.target)) h) [
-      | inl q ↦ named_held m c.args.by c.args.queue s (c.in_ok-queue.ensures.0 ∙ in_option s c.in_ok-queue.queue q)
-      | inr r ↦ named_held m c.args.by c.args.referent s (c.in_ok-target.ensures.slot.0 ∙ in_option s (Some c.in_ok-target.target) r)
+      | inl q ↦ named_held m c.args.by c.args.queue s (c.in_ok-ahead.ensures.0
+          ∙ sym c.in_ok-queue.ensures.0 ∙ in_option s c.in_ok-queue.queue q)
+      | inr r ↦ named_held m c.args.by c.args.referent s (c.in_ok-named.ensures.0
+          ∙ c.in_ok-target.ensures.ok_part ∙ in_option s (Some c.in_ok-target.target) r)
     ]
 
 -- it has a handle, and is black

@@ -16,7 +16,7 @@ returns g c =
     let not_busy = sym c.is_busy.ensures ∙ c.if-is_busy.false in
     let free : IsFreeMutator m k = record { joined = c.in_ok-check_session.ensures; free = c.in_ok-check_no_call.ensures } in
     let cleanable = cleanable_of_named m k h held c.requires named in (
-      close_allowed m k h held free.joined c.in_ok-check_handle.ensures c.in_ok-slot.ensures.slot.1 named not_busy free.free,
+      close_allowed m k h held free.joined c.in_ok-slot.ensures.in_use c.in_ok-slot.ensures.slot.1 named not_busy free.free,
       cleanable.0,
       free,
       close_idle m k h held c.requires named not_busy,

@@ -2,7 +2,7 @@ use Rattle.std.proofs.Common.{sym, ◌∙◌, subst, is_some, IsTrue, option_and
 use Rattle.jlr_machine.specs.Objects.{at}
 use Rattle.jlr_state.specs.Machines.{machine_of}
 use Rattle.jlr_state.proofs.Named.{named_object}
-use Rattle.jlr_state.proofs.state.State.check_slot.Goals as goal
+use Rattle.jlr_state.proofs.state.State.check_object.Goals as goal
 
 pub returns-in-Some-clause-object : goal.returns-in-Some-clause-object
 returns-in-Some-clause-object g c =

@@ -16,7 +16,7 @@ returns g c =
     let open_still = sym c.is_closed.ensures ∙ c.if-is_closed.false in
     let not_out = sym c.is_out.ensures ∙ c.if-is_out.false in
     let free : IsFreeMutator m k = record { joined = c.in_ok-check_session.ensures; free = c.in_ok-check_no_call.ensures } in (
-      use_allowed m k h held free.joined c.in_ok-check_handle.ensures c.in_ok-slot.ensures.slot.1 named open_still not_out free.free,
+      use_allowed m k h held free.joined c.in_ok-slot.ensures.in_use c.in_ok-slot.ensures.slot.1 named open_still not_out free.free,
       named,
       free,
       use_idle m k h held c.requires named open_still not_out,
