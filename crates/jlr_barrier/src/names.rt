@@ -1,7 +1,6 @@
 //! The names of objects.
 ghost use Rattle.std.specs.Prelude.{◌≡◌, ◌≤◌, IfOk, None, OnErr, OnOk, length};
-ghost use Rattle.jlr_machine.specs.Lookups.{bound, slot_bound, unbound};
-ghost use Rattle.jlr_machine.specs.Names.{bound_names};
+ghost use Rattle.jlr_machine.specs.Lookups.{bound, slot_bound, unbound, bound_names};
 ghost use Rattle.jlr_barrier.specs.Graphs.{with_names};
 ghost use Rattle.jlr_barrier.specs.Snapshots.{IsInHand};
 

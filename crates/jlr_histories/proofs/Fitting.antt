@@ -21,7 +21,7 @@ use Rattle.jlr_machine.specs.declared.ask.Answer.TheVariants as answer
 use Rattle.jlr_machine.specs.declared.entry.Entry.{Entry}
 use Rattle.jlr_machine.specs.declared.entry.Collected.{Collected}
 use Rattle.jlr_machine.specs.Objects.{at, is_spent}
-use Rattle.jlr_machine.specs.Lookups.{field_named}
+use Rattle.jlr_machine.specs.Lookups.{field_named, bound_names}
 use Rattle.jlr_machine.specs.Refusals.{given}
 use Rattle.jlr_machine.specs.Calls.{new_handle, handle_given, number_in, outcome_answer, call_answer, take_up_answer, hand_over_answer}
 use Rattle.jlr_machine.specs.Calls.{line_answer, from_lined}
@@ -30,7 +30,6 @@ use Rattle.jlr_machine.specs.Run.IsLegal.{carried_out, refused, heap_full, out_o
 use Rattle.jlr_machine.specs.WellFormed.{IsWellFormed}
 use Rattle.jlr_laws.proofs.Frames.{no_some, some_same}
 use Rattle.jlr_histories.specs.Rooms.{Rooms, FitsRooms, HasRoomFor}
-use Rattle.jlr_machine.specs.Names.{bound_names}
 
 module _ (room : Rooms) where
   plainly : (x a : Answer) → Some x ≡ Some a → FitsRooms room x → FitsRooms room a

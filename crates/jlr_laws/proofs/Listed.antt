@@ -8,7 +8,7 @@ use Rattle.jlr_machine.specs.declared.machine.Session.{Session}
 use Rattle.jlr_machine.specs.declared.machine.Call.{Call}
 use Rattle.jlr_machine.specs.declared.machine.Call.TheVariants.{Free, Opening as CallOpening, Out as CallOut, Job as CallJob}
 use Rattle.jlr_machine.specs.Objects.{◌∈◌, is_rising, is_distinct}
-use Rattle.jlr_machine.specs.Lookups.{same_name}
+use Rattle.jlr_machine.specs.Lookups.{same_name, bound_names}
 use Rattle.jlr_machine.specs.WellFormed.{IsWellFormed, IsObjectAt, IsPrivate, IsUnspent, FitsItsCall, AreResources, state_at}
 use Rattle.jlr_machine.specs.WellFormed.{clean_state_at}
 use Rattle.std.specs.List.{IsDistinct}
@@ -16,7 +16,6 @@ use Rattle.jlr_machine.specs.declared.machine.Binding.{Binding}
 use Rattle.jlr_laws.proofs.Frames.{IsRoot, root_gives, root_from, limits_stay}
 use Rattle.jlr_laws.proofs.Frames.IsRoot.{held, fencing, named, waiting, lining, active}
 use Rattle.jlr_laws.proofs.Changes.{HasCleanable, worker_over}
-use Rattle.jlr_machine.specs.Names.{bound_names}
 
 pub record IsListed (m : Machine) (names : List Binding) (pending line : List ℕ) (cycle_open : Bool) (seen : List ℕ) : Type 0 where
   pub names_there : (s : ℕ) → s ∈ map (λ b. b.slot) names → IsObjectAt m s × ¬ (IsPrivate m s)

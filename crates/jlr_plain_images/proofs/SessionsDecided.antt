@@ -8,11 +8,10 @@ use Rattle.jlr_machine.specs.declared.machine.Binding.{Binding}
 use Rattle.jlr_machine.specs.declared.machine.Call.{Call}
 use Rattle.jlr_machine.specs.declared.machine.Call.TheVariants.{Free, Opening, Out, Job}
 use Rattle.jlr_machine.specs.Objects.{at, occupied}
-use Rattle.jlr_machine.specs.Lookups.{same_name}
+use Rattle.jlr_machine.specs.Lookups.{same_name, bound_names}
 use Rattle.jlr_machine.specs.WellFormed.{AreSessions, OpeningHasRoom}
 use Rattle.jlr_plain_images.specs.Sessions.{opening_has_room, session_fits, is_new_name, names_differ, sessions_fit}
 use Rattle.jlr_plain_images.proofs.Everywhere.{Decides-places, Decides-none, Decides-equal, Decides-most, also, turned}
-use Rattle.jlr_machine.specs.Names.{bound_names}
 
 Decides-opening : (s : Session) (call : Call) → Decides (opening_has_room s call) (OpeningHasRoom s call)
 Decides-opening s (Opening rid) = Decides-most (occupied s.handles) 249

@@ -12,9 +12,8 @@ use Rattle.std.specs.List.{AllByRecursion, IsDistinct}
 use Rattle.std.specs.Map.{lookup, remove_entry, keys_of}
 use Rattle.indexmap.specs.IndexMap.{insert_entry}
 use Rattle.jlr_machine.specs.declared.machine.Binding.{Binding}
-use Rattle.jlr_machine.specs.Lookups.{bound, same_name, slot_bound, unbound}
+use Rattle.jlr_machine.specs.Lookups.{bound, same_name, slot_bound, unbound, bound_names}
 use Rattle.jlr_roots.specs.Naming.{bindings_of, named}
-use Rattle.jlr_machine.specs.Names.{bound_names}
 
 -- texts are compared alike, whichever comes first
 flipped : (xs ys : List ℕ) → bytes_eq xs ys ≡ bytes_eq ys xs

@@ -1,8 +1,7 @@
 //! The names of objects.
 ghost use Rattle.std.specs.Prelude.{◌≡◌, ◌≤◌, IfOk, None, OnErr, OnOk, [], length, slice_get};
-ghost use Rattle.jlr_machine.specs.Lookups.{bound, slot_bound, unbound};
+ghost use Rattle.jlr_machine.specs.Lookups.{bound, slot_bound, unbound, bound_names};
 ghost use Rattle.jlr_roots.specs.Naming.{bindings_of, named};
-ghost use Rattle.jlr_machine.specs.Names.{bound_names};
 
 use indexmap::IndexMap;
 use jlr_machine::items::Items;

@@ -8,7 +8,7 @@ ghost use Rattle.jlr_machine.specs.declared.ask.Answer.TheVariants.{AlreadyDone,
 ghost use Rattle.jlr_machine.specs.Calls.{call_answer};
 ghost use Rattle.jlr_laws.specs.Same.{same_answer, same_truth, same_fault, same_work, same_handed, same_failure};
 ghost use Rattle.jlr_laws.specs.Same.{same_stat};
-ghost use Rattle.jlr_machine.specs.Names.{bound_names};
+ghost use Rattle.jlr_machine.specs.Lookups.{bound_names};
 
 use jlr_machine::ask::{Answer, CallOutcome, Handed, Stat};
 use jlr_machine::machine::{Binding, Failure};

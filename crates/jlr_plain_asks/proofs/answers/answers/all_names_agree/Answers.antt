@@ -2,7 +2,7 @@ use Rattle.std.proofs.Common.{sym, ◌∙◌}
 use Rattle.std.specs.Prelude.{bytes_eq}
 use Rattle.std.proofs.lemmas.List.{length-map}
 use Rattle.std.specs.Cmp.Lexicographic.{unequal}
-use Rattle.jlr_machine.specs.Names.{bound_names}
+use Rattle.jlr_machine.specs.Lookups.{bound_names}
 use Rattle.jlr_plain_asks.proofs.answers.answers.all_names_agree.Goals as goal
 
 pub returns-then-left-right : goal.returns-then-left-right
