@@ -5,7 +5,7 @@ use Rattle.std.specs.Int.{w32}
 use Rattle.std.specs.List.{flat_map, AllByRecursion}
 use Rattle.jlr_trace_fields.specs.declared.fault.Fault.TheVariants.{Short}
 use Rattle.jlr_trace_fields.specs.Spelling.{spelled_32}
-use Rattle.jlr_trace_fields.specs.Reading.{Reader, number_at}
+use Rattle.jlr_trace_fields.specs.Reading.{Reader, ◌>>=◌, number_at}
 
 -- so many items, one after the other
 unfoldable pub items_at : {A : Type 0} → Reader A → ℕ → Reader (List A)
