@@ -9,7 +9,7 @@ failed=0
 # The second lines, with reasons.
 in_use='refheap: it is in use: remove it if no server runs there, or name another path'
 missing='refheap: there is no such file or folder: check the path'
-too_long='refheap: the name is too long: a socket'"'"'s path has at most 107 bytes'
+too_long='refheap: the name is empty or too long: a name has at most 255 bytes, a socket'"'"'s path 107, and 103 with a mode'
 no_thread='refheap: no thread can be started: raise the limit of processes'
 
 # ends NAME STATUS LINE: a case, the status that is due, and the line that is due on the standard error. The case is read from the

@@ -25,7 +25,7 @@ NO_MEMORY = (5, b"refheap: no memory\n")
 DENIED = b"refheap: permission is denied: check the rights of the file and of its folder\n"
 NO_ROOM = b"refheap: no room is left: make room, or name another place\n"
 IN_USE = b"refheap: it is in use: remove it if no server runs there, or name another path\n"
-TOO_LONG = b"refheap: the name is too long: a socket's path has at most 107 bytes\n"
+TOO_LONG = b"refheap: the name is empty or too long: a name has at most 255 bytes, a socket's path 107, and 103 with a mode\n"
 FOLDER = b"refheap: it is a folder: name a file\n"
 MISSING = b"refheap: there is no such file or folder: check the path\n"
 

@@ -196,6 +196,7 @@ def a_second_stop_cuts(program, asked):
         pass
     stream = socket.socket(socket.AF_UNIX)
     stream.connect(server.control)
+    stream.send(b".")
     stream.settimeout(TIMEOUT)
     again = server.stop()
     check(again.returncode == 0 and stream.recv(2) == b".", "both are told")

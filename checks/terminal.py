@@ -246,7 +246,7 @@ def reasons(program, folder):
     wants("a taken socket", listen("taken"), (1, "", line("cannot listen on taken") + taken))
     wants("a socket in no folder", listen("none/heap"), (1, "", line("cannot listen on none/heap") + MISSING))
     long = "x" * 108
-    told = line("the name is too long: a socket's path has at most 107 bytes")
+    told = line("the name is empty or too long: a name has at most 255 bytes, a socket's path 107, and 103 with a mode")
     wants("a socket with too long a name", listen(long), (1, "", line(f"cannot listen on {long}") + told))
     wants("a server whose history cannot be saved does not begin",
           run(program, ["serve", "--socket", "heap2", "--total", "1", "--save", "none/saved"], folder=folder),

@@ -20,7 +20,7 @@ pub enum Reason {
     Folder,
     /// A part of the path is no folder.
     NoFolder,
-    /// The path is too long.
+    /// The path is empty or too long.
     TooLong,
     /// No room is left.
     NoRoom,
@@ -67,7 +67,9 @@ impl Reason {
             Reason::NobodyListens => "nobody listens there: start a server",
             Reason::Folder => "it is a folder: name a file",
             Reason::NoFolder => "a part of the path is no folder: check the path",
-            Reason::TooLong => "the name is too long: a socket's path has at most 107 bytes",
+            Reason::TooLong => {
+                "the name is empty or too long: a name has at most 255 bytes, a socket's path 107, and 103 with a mode"
+            }
             Reason::NoRoom => "no room is left: make room, or name another place",
             Reason::OnlyRead => "its file system can only be read: name another place",
             Reason::NoThread => "no thread can be started: raise the limit of processes",

@@ -14,7 +14,7 @@ use jlr_device::places::Inode;
 use jlr_server::Book;
 use jlr_server::hall::closing::CloseFault;
 use jlr_server::hall::history::Blank;
-use jlr_server::listener::{LineWatcher, Listener, SocketFiles, SocketPlace};
+use jlr_server::listener::{LineWatcher, Listener, SocketPlace};
 use jlr_server::server::{ServeFault, Served, Watched, serve_watched};
 use jlr_server::socket_file::remove_own;
 use std::alloc::{AllocError, Global};
@@ -58,7 +58,14 @@ pub fn serve<T: Threads + Wait + Sync>(
     told
 }
 
-/// The sockets of a server, and who watches its clients.
+/// The files of a server's sockets.
+#[derive(Clone, Copy)]
+struct SocketFiles {
+    socket: Inode,
+    control: Option<Inode>,
+}
+
+/// The sockets of a server, and who watches its clients. Who can ask it to end can connect already.
 fn listening(
     rt: &HostRuntime,
     service: Service<'_>,
@@ -67,22 +74,32 @@ fn listening(
         path: service.socket,
         mode: service.mode,
     };
-    let control = match service.control {
-        Some(path) => Some(SocketPlace {
-            path,
-            mode: Some(service.control_mode),
-        }),
-        None => None,
+    let (listener, mut watcher, socket) = match Listener::bind(rt, rt.alloc(), place) {
+        Ok(bound) => bound,
+        Err(error) => return Err(unbound(rt.alloc(), service.socket, &error)),
     };
-    match Listener::bind(rt, rt.alloc(), place, control) {
-        Ok(bound) => Ok(bound),
-        Err(error) if error.kind() == io::ErrorKind::OutOfMemory => {
-            Err(ProgramFault::NoMemory(AllocError))
+    match control_of(rt, service, &mut watcher) {
+        Ok(control) => Ok((listener, watcher, SocketFiles { socket, control })),
+        Err(fault) => {
+            remove_own(rt, service.socket, socket);
+            Err(fault)
         }
-        Err(error) => {
-            let reason = Reason::of(error.kind());
-            Err(unheard(rt.alloc(), service.socket, reason))
-        }
+    }
+}
+
+/// The file of the socket on which the server is asked to end, if there is to be one.
+fn control_of(
+    rt: &HostRuntime,
+    service: Service<'_>,
+    watcher: &mut LineWatcher,
+) -> Result<Option<Inode>, ProgramFault> {
+    let Some(path) = service.control else {
+        return Ok(None);
+    };
+    let mode = Some(service.control_mode);
+    match watcher.listen_for_end(rt, rt.alloc(), SocketPlace { path, mode }) {
+        Ok(file) => Ok(Some(file)),
+        Err(error) => Err(unbound(rt.alloc(), path, &error)),
     }
 }
 
@@ -192,6 +209,14 @@ fn fault_of(alloc: Global, fault: ServeFault, path: &str) -> ProgramFault {
         }
         ServeFault::Miscounted => ProgramFault::Disagree(u8::MAX),
         ServeFault::Start => unheard(alloc, path, Reason::NoThread),
+    }
+}
+
+/// What an error is to the program for which no socket is made at a path.
+fn unbound(alloc: Global, path: &str, error: &io::Error) -> ProgramFault {
+    match error.kind() {
+        io::ErrorKind::OutOfMemory => ProgramFault::NoMemory(AllocError),
+        kind => unheard(alloc, path, Reason::of(kind)),
     }
 }
 

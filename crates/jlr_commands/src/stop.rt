@@ -1,8 +1,11 @@
 //! Asking a server to end: `refheap stop`.
 use jlr_command_line::fault::ProgramFault;
 use jlr_command_line::reason::{Place, Reason};
-use std::io::{ErrorKind, Read};
+use std::io::{ErrorKind, Read, Write};
 use std::os::unix::net::UnixStream;
+
+/// What a server is told that is to end. Who only connects asks for nothing.
+const END: u8 = b'.';
 
 /// What a server says to who asked it to end, once its history is saved, where it is to be.
 const ENDED: u8 = b'.';
@@ -21,6 +24,9 @@ pub fn stop(rt: &HostRuntime, control: &str) -> Result<(), ProgramFault> {
             return Err(ProgramFault::CannotConnect(place));
         }
     };
+    if (&stream).write_all(&[END]).is_err() {
+        return Err(ProgramFault::NotEnded);
+    }
     let mut word = [0u8; 1];
     let mut has_ended = false;
     for _ in 0..MOST_READS {

@@ -38,9 +38,12 @@ struct Chair {
 pub(crate) struct Chairs {
     chairs: [Chair; MOST_SESSIONS as usize],
     joined: u32,
+    /// How many seats a client sits on.
+    seated: u32,
     /// No `remove` waits any more.
     nobody_waits: bool,
-    /// How many sessions left and jobs ended, modulo 2^64.
+    /// How often something was closed: a client stood up, a session left at whose seat none sat, or a job ended; modulo
+    /// 2^64.
     closings: u64,
 }
 
@@ -54,6 +57,7 @@ impl Chairs {
         Chairs {
             chairs: [empty; MOST_SESSIONS as usize],
             joined: 0,
+            seated: 0,
             nobody_waits: false,
             closings: 0,
         }
@@ -63,6 +67,16 @@ impl Chairs {
     pub(crate) fn sit(&mut self, seat: u8, client: u32) {
         if let Some(chair) = self.chairs.get_mut(usize::from(seat)) {
             chair.sitter = Sitter::Client(client);
+            self.seated = self.seated.saturating_add(1);
+        }
+    }
+
+    /// The client at a seat stands up, and what belonged to it is closed.
+    pub(crate) fn stand(&mut self, seat: u8) {
+        if let Some(chair) = self.chairs.get_mut(usize::from(seat)) {
+            chair.sitter = Sitter::Unnamed;
+            self.seated = self.seated.saturating_sub(1);
+            self.closings = self.closings.wrapping_add(1);
         }
     }
 
@@ -112,10 +126,12 @@ impl Chairs {
         }
     }
 
-    /// A session left.
+    /// A session left. Where clients sit, its connection is closed once its client stands up.
     fn leave(&mut self) {
         self.joined = self.joined.saturating_sub(1);
-        self.closings = self.closings.wrapping_add(1);
+        if self.seated == 0 {
+            self.closings = self.closings.wrapping_add(1);
+        }
     }
 
     /// No `remove` waits any more.
@@ -128,13 +144,13 @@ impl Chairs {
         self.nobody_waits
     }
 
-    /// How many sessions left and jobs ended, modulo 2^64.
+    /// How often something was closed, modulo 2^64.
     pub(crate) fn closings(&self) -> u64 {
         self.closings
     }
 
-    /// Whether a session has joined and not left.
-    pub(crate) fn is_any_joined(&self) -> bool {
-        self.joined > 0
+    /// Whether a client sits on a seat, or a session has joined and not left.
+    pub(crate) fn is_any_there(&self) -> bool {
+        self.joined > 0 || self.seated > 0
     }
 }

@@ -168,7 +168,7 @@ impl<R: Drop, L: Naming + Limited> Locked<R, L> {
 
     /// Whether something may still be closed: a session's connection, or what a cycle or the cleaner would find.
     fn may_close(&self) -> bool {
-        self.chairs.is_any_joined() || self.has_marking() || self.has_pending() || self.has_line()
+        self.chairs.is_any_there() || self.has_marking() || self.has_pending() || self.has_line()
     }
 
     /// What an answered event means for who waits. Who would find something to do now.
@@ -187,7 +187,7 @@ impl<R: Drop, L: Naming + Limited> Locked<R, L> {
             closed: matches!(
                 effect,
                 Effect::Leaves | Effect::Finishes | Effect::Collects | Effect::Queues
-            ),
+            ) || !self.may_close(),
         }
     }
 }
@@ -262,6 +262,12 @@ impl<R: Drop, L: Naming + Limited> Hall<R, L> {
         self.locked.lock(rt).chairs.sit(seat, client);
     }
 
+    /// The client at the seat of a session stands up, once its connection is closed.
+    pub fn stand<T: Wait>(&self, rt: &T, seat: u8) {
+        self.locked.lock(rt).chairs.stand(seat);
+        self.closed.notify_all();
+    }
+
     /// The client of this number is gone: a `remove` in which its seat waits ends and takes nothing, and so does each
     /// later one, until another client sits there. Where it sits no more, nothing changes.
     pub fn call_off<T: Wait>(&self, rt: &T, client: u32) {
@@ -278,13 +284,14 @@ impl<R: Drop, L: Naming + Limited> Hall<R, L> {
         self.wake_removers();
     }
 
-    /// How many sessions have left and jobs ended, modulo 2^64.
+    /// How often something was closed, modulo 2^64: a client stood up, a session left at whose seat none sat, or a job
+    /// ended.
     pub fn closings<T: Wait>(&self, rt: &T) -> u64 {
         self.locked.lock(rt).chairs.closings()
     }
 
-    /// Waits until a session leaves or a job ends, since there were so many; not where nothing is there to be closed,
-    /// nor where the hall is to end.
+    /// Waits until something is closed, since it was so often; not where nothing is there to be closed, nor where the
+    /// hall is to end.
     pub fn wait_for_closing<T: Wait>(&self, rt: &T, closings: u64) {
         drop(
             self.closed.wait_while(rt, self.locked.lock(rt), |l| {

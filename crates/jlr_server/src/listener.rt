@@ -7,10 +7,12 @@ use crate::socket_file::{listen, remove_own};
 use crate::watch::{Closing, News, Watcher};
 use jlr_device::places::Inode;
 use jlr_types::Fault;
+use libc::net::{POLLIN, poll};
+use libc::types::pollfd;
 use mio::unix::SourceFd;
 use mio::{Events, Interest, Poll, Registry, Token, Waker};
 use std::alloc::Global;
-use std::io::{self, Write};
+use std::io::{self, Read, Write};
 use std::net::Shutdown;
 use std::os::fd::{AsRawFd, RawFd};
 use std::os::unix::net::{UnixListener, UnixStream};
@@ -18,6 +20,9 @@ use std::sync::{Mutex, Wait};
 
 /// What who asked the server to end is told, once it has ended in order.
 const ENDED: &[u8] = b".";
+
+/// For how many milliseconds who connected to the socket of control may say nothing.
+const PATIENCE: i32 = 1_000;
 
 /// More than can wait at the socket of control.
 const MOST_ASKERS: u32 = 10_000;
@@ -85,13 +90,6 @@ impl Lines {
     }
 }
 
-/// The files that belong to a listener. They stay when it is dropped.
-#[derive(Clone, Copy)]
-pub struct SocketFiles {
-    pub socket: Inode,
-    pub control: Option<Inode>,
-}
-
 /// A Unix socket on which clients are waited for.
 #[derive(Drop)]
 pub struct Listener {
@@ -102,9 +100,7 @@ pub struct Listener {
 }
 
 impl Listener {
-    /// A socket for clients, and who watches them. Where there is a place of control, another socket is made there,
-    /// once the first listens: who connects to it asks the server to end, and the second one to end at once. Where the
-    /// second cannot be made, the file of the first is removed.
+    /// A socket for clients, who watches them, and the file of the socket, which stays when it is dropped.
     ///
     /// # Errors
     /// As `listen`, or where the system has no more descriptors.
@@ -112,20 +108,12 @@ impl Listener {
         rt: &HostRuntime,
         alloc: Global,
         place: SocketPlace<'_>,
-        control: Option<SocketPlace<'_>>,
-    ) -> io::Result<(Self, LineWatcher, SocketFiles)> {
+    ) -> io::Result<(Self, LineWatcher, Inode)> {
         let poll = Poll::new(rt)?;
         let registry = poll.registry().try_clone()?;
         let over = Waker::new(poll.registry(), Token(OVER))?;
         let events = Events::with_capacity(alloc, 1)?;
-        let (listener, socket) = listen(rt, alloc, place.path, place.mode)?;
-        let (control, control_file) = match control_at(rt, alloc, poll.registry(), control) {
-            Ok(control) => control,
-            Err(error) => {
-                remove_own(rt, place.path, socket);
-                return Err(error);
-            }
-        };
+        let (listener, file) = listen(rt, alloc, place.path, place.mode)?;
         Ok((
             Listener {
                 listener,
@@ -139,36 +127,13 @@ impl Listener {
             LineWatcher {
                 poll,
                 events,
-                control,
+                control: None,
                 is_asked: false,
                 ready: false,
                 askers: Vec::new(alloc),
             },
-            SocketFiles {
-                socket,
-                control: control_file,
-            },
+            file,
         ))
-    }
-}
-
-/// The socket of control at a place, if there is to be one. No file is left where it cannot be watched.
-fn control_at(
-    rt: &HostRuntime,
-    alloc: Global,
-    registry: &Registry,
-    place: Option<SocketPlace<'_>>,
-) -> io::Result<(Option<UnixListener>, Option<Inode>)> {
-    let Some(place) = place else {
-        return Ok((None, None));
-    };
-    let (control, file) = listen(rt, alloc, place.path, place.mode)?;
-    match watch_control(registry, &control) {
-        Ok(()) => Ok((Some(control), Some(file))),
-        Err(error) => {
-            remove_own(rt, place.path, file);
-            Err(error)
-        }
     }
 }
 
@@ -261,6 +226,26 @@ pub struct LineWatcher {
 }
 
 impl LineWatcher {
+    /// Another socket at a place: who connects to it and sends a byte asks the server to end, and the second one to end
+    /// at once. Its file stays when it is dropped.
+    ///
+    /// # Errors
+    /// As `listen`, or where the socket cannot be watched. No file is left then.
+    pub fn listen_for_end(
+        &mut self,
+        rt: &HostRuntime,
+        alloc: Global,
+        place: SocketPlace<'_>,
+    ) -> io::Result<Inode> {
+        let (control, file) = listen(rt, alloc, place.path, place.mode)?;
+        if let Err(error) = watch_control(self.poll.registry(), &control) {
+            remove_own(rt, place.path, file);
+            return Err(error);
+        }
+        self.control = Some(control);
+        Ok(file)
+    }
+
     /// Says to who asked the server to end whether it ended in order, and lets them go.
     pub fn tell_askers(&mut self, in_order: bool) {
         if let Some(control) = &self.control {
@@ -308,15 +293,21 @@ impl LineWatcher {
     }
 
     /// What the next one who waits at the socket of control asks for: the first that the server ends, any other that it
-    /// ends at once.
+    /// ends at once. Where it cannot be let in, since descriptors ran out, it is taken to ask for the end.
     fn order(&mut self) -> Option<News>
         ensures told { MatchOption result (Unit {0}) (λ news. TellsAsked news self.new.is_asked) }
         ensures stays { self.old.is_asked ≡ true → self.new.is_asked ≡ true }
     {
-        let control = self.control.as_ref()?;
-        let Ok((asker, _)) = control.accept() else {
-            self.ready = false;
-            return None;
+        let asker = match self.control.as_ref()?.accept() {
+            Ok((asker, _)) if asks(&asker) => Some(asker),
+            Ok(_) => return None,
+            Err(error) => {
+                self.ready = false;
+                if self.is_asked || error.kind() == io::ErrorKind::WouldBlock {
+                    return None;
+                }
+                None
+            }
         };
         let closing = if self.is_asked {
             Closing::Cut
@@ -324,11 +315,24 @@ impl LineWatcher {
             Closing::Drained
         };
         self.is_asked = true;
-        if let Err(refused) = self.askers.push(asker) {
-            drop(refused);
+        if let Some(asker) = asker {
+            if let Err(refused) = self.askers.push(asker) {
+                drop(refused);
+            }
         }
         Some(News::Asked(closing))
     }
+}
+
+/// Whether who connected to the socket of control asks for something: a byte comes. Who only looked whether somebody
+/// listens there closes.
+fn asks(asker: &UnixStream) -> bool {
+    let mut wanted = [pollfd {
+        fd: asker.as_raw_fd(),
+        events: POLLIN,
+        revents: 0,
+    }];
+    poll(&mut wanted, PATIENCE) > 0 && matches!((&mut &*asker).read(&mut [0u8; 1]), Ok(1))
 }
 
 /// The client that has this token.

@@ -104,6 +104,7 @@ where
             Ok(came) => {
                 hall.sit(rt, work.index(), client);
                 work = work.serve(rt, hall, acceptor, client, came);
+                hall.stand(rt, work.index());
             }
             Err(_) => {
                 if accepts.counts(rt) {

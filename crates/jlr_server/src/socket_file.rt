@@ -20,8 +20,9 @@ pub fn remove_own(rt: &HostRuntime, path: &str, own: Inode) {
 /// rights are those of the umask.
 ///
 /// # Errors
-/// `AddrInUse` where a file is there that is no dead socket, `InvalidInput` where the path is empty or too long, or why
-/// the system makes none. No file is left then.
+/// `AddrInUse` where a file is there that is no dead socket, `InvalidInput` where the path is empty or longer than 107
+/// bytes, or than 103 with a mode, since the file has the path with `.new` behind it first, or why the system makes
+/// none. No file is left then.
 pub fn listen(
     rt: &HostRuntime,
     alloc: Global,
@@ -59,7 +60,12 @@ fn bind_with(rt: &HostRuntime, alloc: Global, path: &str, mode: u32) -> Result<U
 /// Gives a file its rights and then a second path, at which there is no file yet.
 fn place(rt: &HostRuntime, fresh: &str, path: &str, mode: u32) -> Result<()> {
     fs::set_permissions(rt, fresh, Permissions::from_mode(mode))?;
-    fs::hard_link(rt, fresh, path)
+    match fs::hard_link(rt, fresh, path) {
+        Err(error) if error.kind() == ErrorKind::AlreadyExists => {
+            Err(Error::from(ErrorKind::AddrInUse))
+        }
+        linked => linked,
+    }
 }
 
 /// Removes the file at a path where it is a socket at which nobody listens.

@@ -73,7 +73,9 @@ fn has_ended(rt: HostRuntime, control: &str) -> bool {
         return false;
     };
     let mut word = Vec::new(rt.alloc());
-    stream.read_to_end(&mut word).is_ok() && word.as_slice() == b".".as_slice()
+    stream.write_all(b".").is_ok()
+        && stream.read_to_end(&mut word).is_ok()
+        && word.as_slice() == b".".as_slice()
 }
 
 /// What a server leaves of one row: how many clients were accepted, and how many entries the first two seats have.
@@ -140,12 +142,12 @@ fn serve_clients<T: Threads + Wait + Sync>(
         .ok()
         .ok_or("limits")?;
     let place = SocketPlace { path, mode: None };
-    let (listener, watcher, files) = Listener::bind(&rt, rt.alloc(), place, None)?;
+    let (listener, watcher, file) = Listener::bind(&rt, rt.alloc(), place)?;
     let one = thread::spawn(threads, move || are_answered(rt, path, first))?;
     let other = thread::spawn(threads, move || are_answered(rt, path, second))?;
     let left = served(rt, threads, limits, total, &listener, watcher);
     let are_answered = one.join(threads) & other.join(threads);
-    remove_own(&rt, path, files.socket);
+    remove_own(&rt, path, file);
     if !are_answered {
         return Err("a client was answered otherwise".into());
     }
@@ -219,14 +221,13 @@ fn a_server_ends_in_order(rt: HostRuntime) -> Result<(), Fail> {
         path: control,
         mode: Some(0o600),
     };
-    let (listener, watcher, files) = Listener::bind(&rt, rt.alloc(), place, Some(beside))?;
+    let (listener, mut watcher, file) = Listener::bind(&rt, rt.alloc(), place)?;
+    let control_file = watcher.listen_for_end(&rt, rt.alloc(), beside)?;
     let client = thread::spawn(&rt, move || waits_and_stops(rt, path, control))?;
     let left = served(rt, &rt, limits, 1_000, &listener, watcher);
     let is_told = client.join(&rt);
-    remove_own(&rt, path, files.socket);
-    if let Some(file) = files.control {
-        remove_own(&rt, control, file);
-    }
+    remove_own(&rt, path, file);
+    remove_own(&rt, control, control_file);
     if !is_told || left != Some((1, 4, 0)) {
         return Err("it did not end in order".into());
     }
