@@ -92,7 +92,7 @@
  * A guard is an object for something of yours that is to be let go when the program forgets it: a file, a
  * socket, a texture. You know it by a token, any 64-bit number. refheap_prepare makes room, you open the
  * thing, refheap_adopt hands the token in and gives the guard (or refheap_give_up tells that it could not
- * be opened). The heap gives each token back exactly once: by refheap_stop, or by refheap_take_up after a
+ * be opened). The heap gives each token back at most once: by refheap_stop, or by refheap_take_up after a
  * collection found the guard dead. Let the thing go then, and say so by refheap_finish. In between,
  * refheap_check_out lends the token for a call, and a guard is kept while it is out. refheap_close gives no
  * token back: stop or take up what is left before.
