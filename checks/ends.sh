@@ -117,6 +117,16 @@ if [ "$(cat "$folder/file")" != "mine" ]; then
     echo "WRONG   a server where a file is: the file is not left alone"
     failed=1
 fi
+"$program" serve --socket "$folder/file" --mode 600 --total 1 2>"$errors"
+check "a server with a mode where a file is" 1 "refheap: cannot listen on $folder/file"$'\n'"$in_use" $?
+"$program" serve --socket "$socket" --control "$folder/file" --total 1 2>"$errors"
+check "a server whose socket of control is a file" 1 "refheap: cannot listen on $folder/file"$'\n'"$in_use" $?
+gone "a server whose socket of control is a file"
+"$program" run --save "$folder/history" </dev/null >/dev/null
+for words in audit stats; do
+    "$program" "$words" "$folder/history" >/dev/full 2>"$errors"
+    check "$words, whose output is full" 1 "refheap: write failed" $?
+done
 "$program" serve --socket "$folder/none/socket" --total 1 2>"$errors"
 check "a server where no folder is" 1 "refheap: cannot listen on $folder/none/socket"$'\n'"$missing" $?
 long=$folder/$(printf 'x%.0s' {1..200})

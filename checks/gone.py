@@ -6,7 +6,7 @@
 Clients that vanish in `remove`, at random moments: each gives its seat back and takes no reference, so a death goes to the next who waits; a
 client that is only half-closed is still answered; descriptors, threads and memory stay flat over N of them (2,000). What a client left
 open is closed on a quiet server, and `open` finds room again. A server that is asked to end answers `! 18` to who waits and all that was
-sent, saves, removes its files and only then lets go who asked: with 64 clients, while it starts, while it saves, asked twice, with its socket of
+sent, saves, removes its files and only then lets go who asked: with 64 clients, while it starts, while its save fails, asked twice, with its socket of
 control deleted, and N times at random moments (40). A socket's file of a server that was killed is replaced, one of a server that lives
 is left alone, and so is a file that is not the server's own at its end.
 """
@@ -211,6 +211,46 @@ def a_stop_without_a_server(program, asked):
     shutil.rmtree(folder)
 
 
+def a_stop_whose_save_fails(program, asked):
+    server = Server(program, 9, 1)
+    os.mkdir(server.history)
+    told = server.stop()
+    check((told.returncode, told.stderr) == (1, b"refheap: the server did not end in order\n"), "it is told that nothing was saved")
+    server.process.communicate(timeout=TIMEOUT)
+    check(server.process.returncode == 1, "and so is who started the server")
+    shutil.rmtree(server.folder)
+
+
+def a_stop_without_a_word(program, asked):
+    folder = tempfile.mkdtemp(prefix="refheap-gone-")
+    at = os.path.join(folder, "mute")
+    listener = socket.socket(socket.AF_UNIX)
+    listener.bind(at)
+    listener.listen()
+    asking = subprocess.Popen([program, "stop", at], stderr=subprocess.PIPE)
+    listener.accept()[0].close()
+    told = asking.communicate(timeout=TIMEOUT)[1]
+    check((asking.returncode, told) == (1, b"refheap: the server did not end in order\n"), "no word is no end in order")
+    shutil.rmtree(folder)
+
+
+def a_look_is_no_stop(program, asked):
+    server = Server(program, 9, 2)
+    peer = server.peer()
+    other = subprocess.run([program, "serve", "--socket", server.path + "2", "--control", server.control, "--total", "1"],
+                           capture_output=True, check=False)
+    lines = other.stderr.splitlines()
+    check(other.returncode == 1 and lines[0] == b"refheap: cannot listen on " + server.control.encode(), "the one that is in use is named")
+    check(b"it is in use" in lines[1] and not os.path.exists(server.path + "2"), "and why, and no file is left")
+    check(peer.ask("new -") == "= 1", "who was looked for goes on")
+    peer.ask("bye")
+    silent = socket.socket(socket.AF_UNIX)
+    silent.connect(server.control)
+    check(server.stop().returncode == 0, "who only connects holds up no stop")
+    silent.close()
+    check(server.end() == ENDED, "an end in order")
+
+
 def a_deleted_socket_of_control(program, asked):
     server = Server(program, 1, 1)
     os.remove(server.control)
@@ -254,7 +294,15 @@ def files_of_sockets(program, asked):
     check(other.returncode == 1 and b"cannot listen" in other.stderr, "one that lives is left alone")
     server.process.kill()
     server.process.wait()
-    check(os.path.exists(server.path), "a killed server leaves its file")
+    check(os.path.exists(server.path) and os.path.exists(server.control), "a killed server leaves its files")
+    again = subprocess.Popen([program, "serve", "--socket", server.path + "2", "--control", server.control, "--total", "9"])
+    wait_until(lambda: os.path.exists(server.path + "2"))
+    wait_until(lambda: server.stop().returncode == 0)
+    check(again.wait(TIMEOUT) == 0, "a dead socket of control is replaced")
+    datagrams = socket.socket(socket.AF_UNIX, socket.SOCK_DGRAM)
+    datagrams.bind(server.path + "3")
+    other = subprocess.run([program, "serve", "--socket", server.path + "3", "--total", "1"], capture_output=True, check=False)
+    check(other.returncode == 1 and os.path.exists(server.path + "3"), "a socket of another kind is left alone")
     later = subprocess.Popen([program, "serve", "--socket", server.path, "--total", "1"], stdout=subprocess.PIPE)
     deadline = time.time() + TIMEOUT
     peer = None
@@ -281,7 +329,8 @@ def main():
     asked = parser.parse_args()
     program = os.path.abspath(asked.program)
     for case in (a_death_goes_to_the_next, gone_clients_brick_nothing, a_half_closed_client_is_answered, what_a_client_left_is_closed,
-                 a_stop_answers_what_is_owed, a_second_stop_cuts, a_stop_without_a_server, a_deleted_socket_of_control,
+                 a_stop_answers_what_is_owed, a_second_stop_cuts, a_stop_without_a_server, a_stop_whose_save_fails,
+                 a_stop_without_a_word, a_look_is_no_stop, a_deleted_socket_of_control,
                  stops_at_any_moment, files_of_sockets):
         try:
             case(program, asked)

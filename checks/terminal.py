@@ -200,6 +200,12 @@ array 3
 """
 
 
+def of_session(program, lines, folder):
+    """The figures of the history of a session of these lines."""
+    run(program, ["run", "--cells", "16", "--save", "other"], lines.encode(), folder)
+    return run(program, ["stats", "--json", "other"], folder=folder)[1]
+
+
 def figures(program, folder):
     status, _, said = run(program, ["run", "--cells", "16", "--save", "history"], SESSION, folder)
     wants("a session is saved", (status, said), (0, ""))
@@ -219,6 +225,11 @@ def figures(program, folder):
     wants("one file was open, and its action ended well", (told["most_open"], told["actions"]["ok"]), (1, 1))
     last = told["objects"][-1]
     wants("objects at the end", [last[name] for name in ("array", "soft", "weak", "queue", "cleaner")], [1, 1, 1, 1, 1])
+    more = json.loads(of_session(program, "queue\nnew -\nphantom 2 0\nweak 2 1\nenqueue 4\ndrop 2\ngc\nopen w /dev/null\nclose 2\n", folder))
+    wants("a phantom is no weak reference", [more["each"][0][name] for name in ("freed", "weak_cleared", "phantom_cleared")], [1, 0, 1])
+    wants("what was enqueued counts, and what cannot be synced", (more["longest_queue"], more["actions"]["denied"], more["actions"]["other"]), (1, 0, 1))
+    for name in ("freed", "soft_kept", "soft_cleared", "weak_cleared", "phantom_cleared"):
+        wants(f"all that were {name} is the sum of each", told["all"][name], sum(one[name] for one in each))
     status, text, said = run(program, ["stats", "history"], folder=folder)
     lines = text.splitlines()
     wants("figures as a table", (status, said, lines[1].split()[0], "Collections" in text, "soft references cleared" in text), (0, "", "after", True, True))

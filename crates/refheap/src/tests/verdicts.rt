@@ -30,6 +30,7 @@ const ROWS: &str = "
     93 00 0000 00 01 00000000 00000000 00 0100 00 00 -> 3||illegal 1 version 1 entry 1 of seat 0, join of mutator 0, answered ok: its collection may not come here, or keeps or hands over other objects than it may
     93 00 0000 00 02 01 00000000 00 0100 00 00 -> 3||illegal 1 version 1 entry 1 of seat 0, join of mutator 0, answered ok: it makes 0 objects, each in a free cell of its own, and the entry tells others
     60 00 -> 3||illegal 0 version 1 the image is not well formed
+    12 0000000000000007 -> 0||legal 2 version 1 it goes on from the machine in the file, after 7 entries that are not
     102 -> 4|refheap: trace truncated|
     1 58 -> 4|refheap: bad mark|
     4 02 -> 0||legal 2 version 2
@@ -40,6 +41,7 @@ const ROWS: &str = "
     24 02 -> 4|refheap: bad entry 0|
     0 -> 1|refheap: cannot read refheap_history refheap: there is no such file or folder: check the path|
     json 103 -> 0||{\"legal\":true,\"entries\":2,\"before\":0,\"version\":1}
+    json 12 0000000000000007 -> 0||{\"legal\":true,\"entries\":2,\"before\":7,\"version\":1}
     json 96 0c -> 3||{\"legal\":false,\"entry\":1,\"entries\":2,\"before\":0,\"version\":1,\"why\":\"entry 1 of seat 0, join of mutator 0, answered done before: another answer is due: ok\"}
     json 1 58 -> 4|refheap: bad mark|
 ";
