@@ -19,12 +19,7 @@ KINDS = ("proofs", "tests", "edits", "builds")
 # Processor seconds that the proofs of some crates took on 26 November 2026, on a machine as fast as the one on which the bound of
 # docs/gate.md was set. A crate is taken off the list once its files change, since it tells nothing of the machine any more.
 REFERENCE = {
-    "jlr_device": 42,
-    "jlr_laws": 18,
-    "jlr_marks": 17,
-    "jlr_process": 37,
     "jlr_resource": 31,
-    "jlr_roots": 61,
     "jlr_soft": 9,
     "jlr_sweep": 20,
     "jlr_types": 32,
