@@ -6,9 +6,9 @@
 Clients that vanish in `remove`, at random moments: each gives its seat back and takes no reference, so a death goes to the next who waits; a
 client that is only half-closed is still answered; descriptors, threads and memory stay flat over N of them (2,000). What a client left
 open is closed on a quiet server, and `open` finds room again. A server that is asked to end answers `! 18` to who waits and all that was
-sent, saves, removes its files and only then lets go who asked: with 64 clients, while it starts, while its save fails, asked twice, with its socket of
-control deleted, and N times at random moments (40). A socket's file of a server that was killed is replaced, one of a server that lives
-is left alone, and so is a file that is not the server's own at its end.
+sent, saves, removes its files and only then lets go who asked: with 64 clients, while it starts, while its save
+fails, asked twice, with its socket of control deleted, and N times at random moments (40). A socket's file of a
+server that was killed is replaced, one of a server that lives is left alone, and so is a file that is not the server's own at its end.
 """
 import argparse
 import os
@@ -88,6 +88,7 @@ class Server:
 
 
 ENDED = (0, ["history"], [b"legal"], b"")
+NOT_ENDED = (1, b"refheap: the server did not end in order\n")
 
 
 def wait_until(holds, seconds=TIMEOUT):
@@ -215,7 +216,7 @@ def a_stop_whose_save_fails(program, asked):
     server = Server(program, 9, 1)
     os.mkdir(server.history)
     told = server.stop()
-    check((told.returncode, told.stderr) == (1, b"refheap: the server did not end in order\n"), "it is told that nothing was saved")
+    check((told.returncode, told.stderr) == NOT_ENDED, "it is told that nothing was saved")
     server.process.communicate(timeout=TIMEOUT)
     check(server.process.returncode == 1, "and so is who started the server")
     shutil.rmtree(server.folder)
@@ -230,17 +231,18 @@ def a_stop_without_a_word(program, asked):
     asking = subprocess.Popen([program, "stop", at], stderr=subprocess.PIPE)
     listener.accept()[0].close()
     told = asking.communicate(timeout=TIMEOUT)[1]
-    check((asking.returncode, told) == (1, b"refheap: the server did not end in order\n"), "no word is no end in order")
+    check((asking.returncode, told) == NOT_ENDED, "no word is no end in order")
     shutil.rmtree(folder)
 
 
 def a_look_is_no_stop(program, asked):
     server = Server(program, 9, 2)
     peer = server.peer()
-    other = subprocess.run([program, "serve", "--socket", server.path + "2", "--control", server.control, "--total", "1"],
-                           capture_output=True, check=False)
+    words = ["--socket", server.path + "2", "--control", server.control, "--total", "1"]
+    other = subprocess.run([program, "serve", *words], capture_output=True, check=False)
     lines = other.stderr.splitlines()
-    check(other.returncode == 1 and lines[0] == b"refheap: cannot listen on " + server.control.encode(), "the one that is in use is named")
+    due = b"refheap: cannot listen on " + server.control.encode()
+    check(other.returncode == 1 and lines[0] == due, "the one that is in use is named")
     check(b"it is in use" in lines[1] and not os.path.exists(server.path + "2"), "and why, and no file is left")
     check(peer.ask("new -") == "= 1", "who was looked for goes on")
     peer.ask("bye")
@@ -295,13 +297,15 @@ def files_of_sockets(program, asked):
     server.process.kill()
     server.process.wait()
     check(os.path.exists(server.path) and os.path.exists(server.control), "a killed server leaves its files")
-    again = subprocess.Popen([program, "serve", "--socket", server.path + "2", "--control", server.control, "--total", "9"])
+    words = ["--socket", server.path + "2", "--control", server.control, "--total", "9"]
+    again = subprocess.Popen([program, "serve", *words], stdout=subprocess.DEVNULL)
     wait_until(lambda: os.path.exists(server.path + "2"))
     wait_until(lambda: server.stop().returncode == 0)
     check(again.wait(TIMEOUT) == 0, "a dead socket of control is replaced")
     datagrams = socket.socket(socket.AF_UNIX, socket.SOCK_DGRAM)
     datagrams.bind(server.path + "3")
-    other = subprocess.run([program, "serve", "--socket", server.path + "3", "--total", "1"], capture_output=True, check=False)
+    words = ["--socket", server.path + "3", "--total", "1"]
+    other = subprocess.run([program, "serve", *words], capture_output=True, check=False)
     check(other.returncode == 1 and os.path.exists(server.path + "3"), "a socket of another kind is left alone")
     later = subprocess.Popen([program, "serve", "--socket", server.path, "--total", "1"], stdout=subprocess.PIPE)
     deadline = time.time() + TIMEOUT

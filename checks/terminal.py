@@ -225,9 +225,13 @@ def figures(program, folder):
     wants("one file was open, and its action ended well", (told["most_open"], told["actions"]["ok"]), (1, 1))
     last = told["objects"][-1]
     wants("objects at the end", [last[name] for name in ("array", "soft", "weak", "queue", "cleaner")], [1, 1, 1, 1, 1])
-    more = json.loads(of_session(program, "queue\nnew -\nphantom 2 0\nweak 2 1\nenqueue 4\ndrop 2\ngc\nopen w /dev/null\nclose 2\n", folder))
-    wants("a phantom is no weak reference", [more["each"][0][name] for name in ("freed", "weak_cleared", "phantom_cleared")], [1, 0, 1])
-    wants("what was enqueued counts, and what cannot be synced", (more["longest_queue"], more["actions"]["denied"], more["actions"]["other"]), (1, 0, 1))
+    lines = ["queue", "new -", "phantom 2 0", "weak 2 1", "enqueue 4", "drop 2", "gc", "open w /dev/null", "close 2"]
+    more = json.loads(of_session(program, "".join(line + "\n" for line in lines), folder))
+    first, actions = more["each"][0], more["actions"]
+    cleared = ("freed", "weak_cleared", "phantom_cleared")
+    wants("a phantom is no weak reference", [first[name] for name in cleared], [1, 0, 1])
+    wants("what was enqueued counts", more["longest_queue"], 1)
+    wants("what cannot be synced is another fault", (actions["denied"], actions["other"]), (0, 1))
     for name in ("freed", "soft_kept", "soft_cleared", "weak_cleared", "phantom_cleared"):
         wants(f"all that were {name} is the sum of each", told["all"][name], sum(one[name] for one in each))
     status, text, said = run(program, ["stats", "history"], folder=folder)
