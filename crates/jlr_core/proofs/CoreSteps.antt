@@ -25,7 +25,8 @@ pub keeps_invariant :
     {R : Type 0} (old new : State R) (event : Event R) (answer : Option Answer) (chosen : Chosen) (out : Option R)
     → IsWellFormed (machine_of old) → AllWait (machine_of old) old.cleaner.waiting
     → StepsMachine (machine_of old) old.heap.marking (ask_of event) answer chosen (machine_of new)
-    → StepsState old event answer chosen out new → IsWellFormed (machine_of new) × AllWait (machine_of new) new.cleaner.waiting
+    → StepsState old event answer chosen out new
+    → IsWellFormed (machine_of new) × AllWait (machine_of new) new.cleaner.waiting
 keeps_invariant old new event answer chosen out formed waits entry rest =
     let m = machine_of old in
     let n = machine_of new in
@@ -37,18 +38,19 @@ keeps_invariant old new event answer chosen out formed waits entry rest =
     )
 
 pub steps_core :
-    {R : Type 0} (old new : State R) (event : Event R) (reply : Reply R) (chosen : Chosen) → IsWellFormed (machine_of old)
+    {R : Type 0} (old new : State R) (event : Event R) (reply : Reply R) (chosen : Chosen)
+    → IsWellFormed (machine_of old)
     → StepsMachine (machine_of old) old.heap.marking (ask_of event) (answer_in reply) chosen (machine_of new)
     → StepsState old event (answer_in reply) chosen (resource_of_reply reply) new
-    → AnswersPiece (budget_of event) old.soft_age old.heap.clock (machine_of old) old.heap.marking old.heap.condemned reply
-    new.heap.marking new.heap.condemned
+    → AnswersPiece (budget_of event) old.soft_age old.heap.clock (machine_of old) old.heap.marking old.heap.condemned
+    reply new.heap.marking new.heap.condemned
     → IsStep (kept_of old) event reply chosen (kept_of new)
 steps_core old new event reply chosen formed entry rest piece =
     record {
       entry =
           λ m stands.
-          enters (machine_of old) (machine_of new) old.heap.marking new.heap.marking (ask_of event) (answer_in reply) chosen
-          refl refl formed rest.cells entry rest.reached rest.begins m stands;
+          enters (machine_of old) (machine_of new) old.heap.marking new.heap.marking (ask_of event) (answer_in reply)
+          chosen refl refl formed rest.cells entry rest.reached rest.begins m stands;
       cells = rest.cells;
       flow = rest.flow;
       moves = rest.moves;

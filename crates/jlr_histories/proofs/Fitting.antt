@@ -1,5 +1,5 @@
 -- A list answer comes only to the three asks for lists, and has at most 256 items; what a call read only to the end of that call.
-use Rattle.std.proofs.Common.{◌≡◌, ℕ, ◌≤◌, true, false, cond, List, [], ◌∷◌, map, length, Option, Some, None, option_map, option_and_then}
+use Rattle.std.proofs.Common.{◌≡◌, ℕ, ◌≤◌, true, false, cond, List, [], ◌∷◌, length, Option, Some, None, option_map, option_and_then}
 use Rattle.std.proofs.Common.{sym, subst, arith}
 use Rattle.std.proofs.lemmas.List.{length-map}
 use Rattle.jlr_types.specs.declared.FieldValue.{FieldValue}

@@ -85,7 +85,8 @@ returns-in-Ok-allocate-clause-waits g c =
     let inside : slot < length mid.cleaner.waiting =
     omega (arith, made.0, long, c.requires.waits.places, c.in-Ok-allocate.ensures.rest.cells) in
     let registered =
-    registers n mid.cleaner c.give.new.self.cleaner slot armed inside there refl action (c.give.ensures.rest.cleaner ∙ number) in
+    registers n mid.cleaner c.give.new.self.cleaner slot armed inside there refl action
+    (c.give.ensures.rest.cleaner ∙ number) in
     inr (inl (subst (λ (k : Cleanings g.row.R.Denot). Registers n k c.give.new.self.cleaner) same registered))
 
 -- a handle names what it is registered for

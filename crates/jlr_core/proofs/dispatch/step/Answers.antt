@@ -11,5 +11,6 @@ returns-in-Ask-clause-rest g c =
     let is : Asks c.get.result.now ≡ c.args.event = ap Asks c.get.ensures.ask ∙ sym c.in-Ask.is in
     subst
     (λ (event : Event g.row.R.Denot).
-    StepsState c.args.state.now event (answer_in reply) c.step_ask.new.choice.chosen (resource_of_reply reply) c.step_ask.new.state)
+    StepsState c.args.state.now event (answer_in reply) c.step_ask.new.choice.chosen (resource_of_reply reply)
+    c.step_ask.new.state)
     is c.step_ask.ensures.rest

@@ -8,7 +8,8 @@ use Rattle.jlr_core.proofs.objects.put.Goals as goal
 
 -- a handle stands for an object
 pub check_plain-requires : goal.check_plain-requires
-check_plain-requires g c = named_object (machine_of c.args.state.now) c.args.by c.args.object c.in_ok-slot.slot c.requires
+check_plain-requires g c =
+    named_object (machine_of c.args.state.now) c.args.by c.args.object c.in_ok-slot.slot c.requires
     (c.in_ok-named.ensures.0 ∙ c.in_ok-slot.ensures.ok_part)
 
 -- which lies within the heap

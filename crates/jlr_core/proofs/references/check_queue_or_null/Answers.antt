@@ -1,4 +1,4 @@
-use Rattle.std.proofs.Common.{◌≡◌, not, Some, false, refl, sym, ◌∙◌, ap, subst, option_and_then}
+use Rattle.std.proofs.Common.{◌≡◌, not, false, refl, sym, ◌∙◌, ap, subst, option_and_then}
 use Rattle.jlr_machine.specs.Objects.{at, some_and}
 use Rattle.jlr_machine.specs.Refusals.{is_queue}
 use Rattle.jlr_laws.proofs.Frames.{some_same}

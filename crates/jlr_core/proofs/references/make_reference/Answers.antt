@@ -21,7 +21,8 @@ returns-in-Err-clause-meets g c =
     let n = machine_of c.allocate.new.self in
     let ask = MakeRef c.args.by c.args.kind c.args.referent c.args.queue in
     let allowed = allowed_reference m c.args.by c.args.kind c.args.referent c.args.queue c.in_ok-check_session.ensures
-    c.in_ok-named.ensures.1 c.in_ok-ahead.ensures.1 (c.in_ok-named.ensures.2 ∙ ap is_none c.in_ok-target.ensures.ok_part)
+    c.in_ok-named.ensures.1 c.in_ok-ahead.ensures.1
+    (c.in_ok-named.ensures.2 ∙ ap is_none c.in_ok-target.ensures.ok_part)
     (ap (λ o. some_and (λ x. not (is_queue x)) (option_and_then (at m.objects) o)) c.in_ok-ahead.ensures.0
     ∙ c.in_ok-queue.ensures.1) c.in_ok-check_no_call.ensures c.in_ok-check_free_handle.ensures in
     subst (λ r. Meets m ask (Refused r) c.allocate.new.choice.chosen n) (sym c.in-Err.ensures.full.0)
@@ -31,7 +32,8 @@ pub returns-in-Ok-clause-meets : goal.returns-in-Ok-clause-meets
 returns-in-Ok-clause-meets g c =
     let m = machine_of c.args.state.now in
     let allowed = allowed_reference m c.args.by c.args.kind c.args.referent c.args.queue c.in_ok-check_session.ensures
-    c.in_ok-named.ensures.1 c.in_ok-ahead.ensures.1 (c.in_ok-named.ensures.2 ∙ ap is_none c.in_ok-target.ensures.ok_part)
+    c.in_ok-named.ensures.1 c.in_ok-ahead.ensures.1
+    (c.in_ok-named.ensures.2 ∙ ap is_none c.in_ok-target.ensures.ok_part)
     (ap (λ o. some_and (λ x. not (is_queue x)) (option_and_then (at m.objects) o)) c.in_ok-ahead.ensures.0
     ∙ c.in_ok-queue.ensures.1) c.in_ok-check_no_call.ensures c.in_ok-check_free_handle.ensures in
     meets_new_reference m (machine_of c.allocate.new.self) (machine_of c.give.new.self) c.args.by c.in-Ok.slot c.args.kind c.args.referent

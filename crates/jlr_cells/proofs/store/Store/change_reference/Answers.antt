@@ -25,8 +25,9 @@ change_reference-requires c =
 pub invariant_of-self : goal.invariant_of-self
 invariant_of-self c =
     record {
-      kept = kept_reference _ _ _ _ c.index_mut-cell.result.now _ (altered_reference c.args.change) c.self.invariant.kept
-          c.index_mut-cell.ensures.value c.change_reference.ensures.new c.change_reference.ensures.kind;
+      kept = kept_reference _ _ _ _ c.index_mut-cell.result.now _ (altered_reference c.args.change)
+          c.self.invariant.kept c.index_mut-cell.ensures.value
+          c.change_reference.ensures.new c.change_reference.ensures.kind;
       members = c.self.invariant.members;
     }
 
@@ -36,5 +37,6 @@ returns c =
     within c.self.inside.cells c.self.inside.queues.lists c.args.self.now c.self.view_is _ _ c.number.ensures
     (object_of_reference _ c.requires) in
     changed_at c.self.inside.cells c.self.inside.queues.lists c.args.self.now c.self.view_is _ _ c.index_mut-cell.result.now _
-    (with_reference (altered_reference c.args.change)) c.number.ensures below c.index_mut-cell.ensures.value c.change_reference.ensures.new
+    (with_reference (altered_reference c.args.change)) c.number.ensures below c.index_mut-cell.ensures.value
+    c.change_reference.ensures.new
     (reference_leaves (altered_reference c.args.change))

@@ -48,4 +48,5 @@ returns-clause-step g c =
       waits = search rules;
     } in
     subst (λ (k : Kept g.row.R.Denot). IsStep k event reply no_choice (kept_of new)) c.self.view_is
-    (steps_core old new event reply no_choice c.self.invariant.0 (refl, did.machine) rest (c.mark.result, refl, did.piece))
+    (steps_core old new event reply no_choice c.self.invariant.0 (refl, did.machine) rest
+    (c.mark.result, refl, did.piece))

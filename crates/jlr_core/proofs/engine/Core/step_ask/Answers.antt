@@ -13,7 +13,8 @@ invariant_of-self g c =
     let did = c.step_ask.ensures in
     keeps_invariant {R = g.row.R.Denot} c.self.inside.state c.step_ask.new.state
     (Asks c.args.ask.now) (answer_in c.step_ask.result)
-    c.step_ask.new.choice.chosen (resource_of_reply c.step_ask.result) c.self.invariant.0 c.self.invariant.1 did.entry did.rest
+    c.step_ask.new.choice.chosen (resource_of_reply c.step_ask.result)
+    c.self.invariant.0 c.self.invariant.1 did.entry did.rest
 
 pub returns-clause-step : goal.returns-clause-step
 returns-clause-step g c =

@@ -23,7 +23,8 @@ returns-clause-step g c =
     let did = c.step_cleaner.ensures in
     let new = c.step_cleaner.new.state in
     let event : Event g.row.R.Denot = Asks TakeUp in
-    let reply : Reply g.row.R.Denot = Answered (take_up_answered c.step_cleaner.result) (handed_out c.step_cleaner.result) in
+    let reply : Reply g.row.R.Denot =
+    Answered (take_up_answered c.step_cleaner.result) (handed_out c.step_cleaner.result) in
     let chosen = no_choice in
     subst (λ (k : Kept g.row.R.Denot). IsStep k event reply chosen (kept_of new)) c.self.view_is
     (steps_core c.self.inside.state new event reply chosen c.self.invariant.0 did.entry did.rest tt)

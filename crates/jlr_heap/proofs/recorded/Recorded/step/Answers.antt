@@ -1,5 +1,4 @@
 use Rattle.std.proofs.Common.{subst}
-use Rattle.jlr_event.specs.declared.event.Reply.TheVariants.{Answered}
 use Rattle.jlr_book.specs.Rules.{BookSteps}
 use Rattle.jlr_heap.proofs.Stepping.{back_answered, kind_answered, never_marked, suits_answered}
 use Rattle.jlr_heap.proofs.recorded.Recorded.step.Goals as goal
