@@ -8,6 +8,7 @@ and nothing is made. A server's own sockets are joined by nobody, under no name.
 The same for `run`, where there is a server or not.
 """
 import os
+import re
 import socket
 import stat
 import subprocess
@@ -144,12 +145,30 @@ def rights(program):
         server.stop()
 
 
+def rights_come_first(program):
+    """By `strace`: a socket's file is made under a name of its own, and has its rights before it has the name that clients know."""
+    with tempfile.TemporaryDirectory(prefix="refheap-trust-") as folder:
+        log, traced = os.path.join(folder, "log"), os.path.join(folder, "traced")
+        with open(traced, "w", encoding="ascii") as file:
+            file.write(f'#!/bin/sh\nexec strace -f -qq -e trace=bind,chmod,fchmodat,link,linkat -o {log} "{program}" "$@"\n')
+        os.chmod(traced, 0o755)
+        server = Server(traced, folder, "--mode", "660")
+        server.program = program
+        server.stop()
+        with open(log, encoding="utf-8", errors="replace") as file:
+            calls = file.read()
+    for name in ("heap", "control"):
+        order = re.findall(rf'^\d+ +f?(bind|chmod|link)(?:at)?\(.*"{name}\.new"', calls, re.MULTILINE)
+        wants(f"the file {name} has its rights before its name", order, ["bind", "chmod", "link"])
+
+
 def main(program):
     program = os.path.abspath(program)
     try:
         fenced(program)
         own_sockets(program)
         rights(program)
+        rights_come_first(program)
     except Wrong as wrong:
         print(f"WRONG   {wrong}")
         return 1

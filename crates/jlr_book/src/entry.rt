@@ -53,8 +53,7 @@ pub(crate) fn record<R: Drop>(
     }
 }
 
-/// An entry that needs its place alone, without a collection: its ask is moved there, and the core is lent it. The core
-/// is lent a choice too.
+/// An entry that needs its place alone, without a collection. The core is lent the ask, and a choice.
 #[inline(always)]
 pub(crate) fn record_in_place<R>(
     core: &mut Core<R>,
@@ -75,40 +74,14 @@ pub(crate) fn record_in_place<R>(
     ensures room { vec_capacity trace.new ≡ vec_capacity trace.old }
     ensures choice { lent.new.cells ≡ lent.old.cells }
 {
-    let place = trace.len();
+    let answer = core.answer(&ask, lent);
     trace.push_reserved(Entry {
         seat,
         ask,
-        answer: Answer::Done,
-        choice: Chosen::nothing(),
+        answer: copy_without_room(alloc, &answer),
+        choice: Chosen::plain(lent.take_fresh()),
     });
-    let entry = &mut trace[place];
-    tell_briefly(core, lent, alloc, entry)
-}
-
-/// A step of the core for the ask of an entry that needs its place alone: its answer and its choice are told there. The
-/// answer.
-#[inline(always)]
-fn tell_briefly<R>(
-    core: &mut Core<R>,
-    lent: &mut Choice,
-    alloc: Global,
-    entry: &mut Entry,
-) -> Answer
-    requires brief { fits_fast_path entry.old.ask ≡ true }
-    requires stands { Stands core.old }
-    requires choice { length core.old.machine.objects ≤ lent.old.cells }
-    requires plain { may_collect core.old.machine (Some entry.old.ask) ≡ false }
-    ensures step { IsStep core.old (Event.Ask entry.old.ask) (Reply.Answered result None) entry.new.choice core.new }
-    ensures ask { entry.new.ask ≡ entry.old.ask }
-    ensures answer { entry.new.answer ≡ result }
-    ensures seat { entry.new.seat ≡ entry.old.seat }
-    ensures cells { length core.new.machine.objects ≡ length core.old.machine.objects }
-    ensures choice { lent.new.cells ≡ lent.old.cells }
-{
-    entry.answer = core.answer(&entry.ask, lent);
-    entry.choice = Chosen::plain(lent.take_fresh());
-    copy_without_room(alloc, &entry.answer)
+    answer
 }
 
 /// An entry without a collection. The core is lent a choice.

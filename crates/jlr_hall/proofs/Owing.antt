@@ -20,8 +20,9 @@ use Rattle.jlr_hall.specs.declared.dues.Dues.{Dues}
 use Rattle.jlr_hall.specs.declared.step.Step.{Step}
 use Rattle.jlr_hall.specs.OneHistory.{is_refused_reply, seat_of, step}
 use Rattle.jlr_hall.specs.Asking.{gave_up}
-use Rattle.jlr_hall.specs.Due.{IsOwed, count_after, is_collected, is_resources_full, answers_handle, open_at, owes, settles}
-use Rattle.jlr_hall.specs.Locking.{Shows, dues_after, count_at, effect_of, with_count, without}
+use Rattle.jlr_hall.specs.Due.{IsOwed, count_after, is_collected, is_given_up, is_resources_full, answers_handle, open_at, owes}
+use Rattle.jlr_hall.specs.Due.{settles}
+use Rattle.jlr_hall.specs.Locking.{Shows, dues_after, count_at, effect_of, owing_where, with_count, without}
 
 -- ---- What a step changes of what is kept
 
@@ -58,9 +59,8 @@ module _ (seat : ℕ) (d : Dues) (sits : seat < length d.opened) where
     owed = refl;
   }
 
-  owes_where : (b : Bool) → Moves seat d (count_at seat d) b false (cond b (record d { owed = true }) d)
-  owes_where true = record { long = refl; here = refl; others = λ k ne. refl; owed = refl }
-  owes_where false = stays
+  owes_where : (b : Bool) → Moves seat d (count_at seat d) b false (owing_where b d)
+  owes_where b = record { long = refl; here = refl; others = λ k ne. refl; owed = refl }
 
   settles_where : (b : Bool) → Moves seat d (count_at seat d) false b (cond b (record d { owed = false }) d)
   settles_where true = record { long = refl; here = refl; others = λ k ne. refl; owed = refl }
@@ -74,6 +74,7 @@ module _ (seat : ℕ) (d : Dues) (sits : seat < length d.opened) where
   moves (Asks (Clean k c)) reply = counts_where (is_some (resource_of_reply reply)) (count_at seat d - 1)
   moves (Asks (Close k h)) reply = counts_where (is_some (resource_of_reply reply)) (count_at seat d - 1)
   moves (Asks (Prepare k)) reply = owes_where (is_resources_full (answer_in reply))
+  moves (Asks Abandon) reply = owes_where (is_given_up (answer_in reply))
   moves (Asks Begin) reply = settles_where (is_collected (answer_in reply))
   moves (Asks (Full k mode)) reply = settles_where (is_collected (answer_in reply))
   moves event reply = stays
@@ -81,10 +82,8 @@ module _ (seat : ℕ) (d : Dues) (sits : seat < length d.opened) where
 -- what the book declines changes nothing
 unchanged : {R : Type 0} (seat : ℕ) (d : Dues) (by : Refusal) → (by ≡ NoMemory) ⊎ (by ≡ Exhausted) → (e : Event R)
     → dues_after seat (effect_of e) (Answered (Refused by) (resource_of_event e)) d ≡ d
-unchanged seat d by (inl is) (Asks (Prepare k)) =
-    ap (λ (x : Refusal). cond (is_resources_full (Some (Refused x))) (record d { owed = true }) d) is
-unchanged seat d by (inr is) (Asks (Prepare k)) =
-    ap (λ (x : Refusal). cond (is_resources_full (Some (Refused x))) (record d { owed = true }) d) is
+unchanged seat d by (inl is) (Asks (Prepare k)) = ap (λ (x : Refusal). owing_where (is_resources_full (Some (Refused x))) d) is
+unchanged seat d by (inr is) (Asks (Prepare k)) = ap (λ (x : Refusal). owing_where (is_resources_full (Some (Refused x))) d) is
 unchanged seat d by why e = refl
 
 -- ---- What a step changes of what the history says
@@ -200,15 +199,17 @@ module _ {R : Type 0} where
       shown_more d (dues_after seat (effect_of e) reply d) log (step seat e reply cuts) sits shows (moves seat d there e reply)
 
   -- after a cut that gave a cycle up
-  shown_cut : (d : Dues) (log : List (Step R)) (seat : ℕ) (b : Bool) → seat < 256 → Shows d log → Shows d (log ++ gave_up seat b)
+  shown_cut : (d : Dues) (log : List (Step R)) (seat : ℕ) (b : Bool) → seat < 256 → Shows d log
+      → Shows (owing_where b d) (log ++ gave_up seat b)
   shown_cut d log seat true sits shows = shown_step d log seat (Asks Abandon) (Answered (Truth true) None) false sits shows
   shown_cut d log seat false sits shows = subst (Shows d) (sym (append-nil log)) shows
 
   pub shown_now : (d : Dues) (log now : List (Step R)) (seat : ℕ) (e : Event R) (reply : Reply R) (cut b : Bool) → seat < 256
-      → now ≡ gave_up seat b ++ step seat e reply cut ∷ [] → Shows d log → Shows (dues_after seat (effect_of e) reply d) (log ++ now)
+      → now ≡ gave_up seat b ++ step seat e reply cut ∷ [] → Shows d log
+      → Shows (dues_after seat (effect_of e) reply (owing_where b d)) (log ++ now)
   shown_now d log now seat e reply cut b sits is shows =
-      let there = shown_step d (log ++ gave_up seat b) seat e reply cut sits (shown_cut d log seat b sits shows) in
-      subst (λ (l : List (Step R)). Shows (dues_after seat (effect_of e) reply d) l)
+      let there = shown_step (owing_where b d) (log ++ gave_up seat b) seat e reply cut sits (shown_cut d log seat b sits shows) in
+      subst (λ (l : List (Step R)). Shows (dues_after seat (effect_of e) reply (owing_where b d)) l)
       (append_assoc log (gave_up seat b) (step seat e reply cut ∷ []) ∙ ap (λ l. log ++ l) (sym is)) there
 
   pub shown_declined : (d : Dues) (log now : List (Step R)) (seat : ℕ) (e : Event R) (reply : Reply R) (by : Refusal) → now ≡ []

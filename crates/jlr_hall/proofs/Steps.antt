@@ -1,6 +1,7 @@
 -- A step of a book is told whole.
 use Rattle.std.proofs.Common.{◌≡◌, ◌⊎◌, ◌≤◌, ◌<◌, ◌+◌, ◌^◌, ◌&&◌, ℕ, Bool, true, false, not, cond, List, [], ◌∷◌, ◌++◌, length}
 use Rattle.std.proofs.Common.{length-append, Option, Some, None, inl, inr, refl, sym, ◌∙◌, ap, subst, arith, nat_lt, append_assoc}
+use Rattle.std.specs.Prelude.{◌==◌}
 use Rattle.std.specs.Option.{option_to_list}
 use Rattle.std.proofs.lemmas.List.{append-nil, map-append}
 use Rattle.std.proofs.lemmas.Bool.{lt-ltb}
@@ -36,7 +37,7 @@ use Rattle.jlr_hall.specs.OneHistory.{AllSit, IsWhole, Trace, add, step_entry, e
 use Rattle.jlr_hall.specs.OneHistory.{step}
 use Rattle.jlr_hall.specs.OneHistory.{trace, trace_of}
 use Rattle.jlr_hall.specs.Asking.{AskedIn, gave_up, is_cut, is_trace_full, may_cut, with_cut}
-use Rattle.jlr_hall.specs.Locking.{IsLocked, dues_after, effect_of}
+use Rattle.jlr_hall.specs.Locking.{IsLocked, Shows, dues_after, effect_of, owing_where}
 use Rattle.jlr_hall.specs.Telling.{added}
 use Rattle.jlr_hall.specs.declared.dues.Dues.{Dues}
 use Rattle.jlr_hall.proofs.Owing.{shown_declined, shown_now}
@@ -125,14 +126,30 @@ module _ {R : Type 0} (seat : ℕ) (e : Event R) (reply : Reply R) (cuts : Bool)
 abbrev Declining : {R : Type 0} → History R → Refusal → Type 0
 Declining h by = (by ≡ NoMemory) ⊎ ((by ≡ Exhausted) × (2 ^ 64 ≤ last h + 1024))
 
+-- a cut of a book with an open cycle moved its base on
+abbrev pub given_up : {R : Type 0} → History R → History R → Bool
+given_up h new = h.core.machine.cycle_open && not (new.base == h.base)
+
+stays_open : (b : Bool) (n m : ℕ) → m ≡ n → (b && not (m == n)) ≡ false
+stays_open true n m is = grind (arith, nat_tests)
+stays_open false n m is = refl
+
+moves_on : (n m : ℕ) → n < m → not (m == n) ≡ true
+moves_on n m less = grind (arith, nat_tests)
+
+and_false : (b : Bool) → (b && false) ≡ false
+and_false true = refl
+and_false false = refl
+
 -- what is told leads from a book on to the new one, and is the event, or the book refused it
 pub record Tells {R : Type 0} (limits : Limits) (log : List (Step R)) (seat : ℕ) (h : History R) (e : Event R) (reply : Reply R)
     (now : List (Step R)) (new : History R) : Type 0 where
   pub leads : Leads limits (log ++ now) new.core (trace new.base new.entries)
   pub limits_are : new.limits ≡ limits
   pub seats : AllSit (limits.sessions + 3) (log ++ now)
-  pub fate : (now ≡ with_cut seat h e reply (is_cut h e))
-      ⊎ ((now ≡ []) × (may_cut (ask_of e) ≡ true) × (by : Refusal) × Declining h by × (reply ≡ Answered (Refused by) (resource_of_event e)))
+  pub fate : ((now ≡ with_cut seat h e reply (is_cut h e)) × (given_up h new ≡ (is_cut h e && h.core.machine.cycle_open)))
+      ⊎ ((now ≡ []) × (may_cut (ask_of e) ≡ true) × (by : Refusal) × Declining h by × (reply ≡ Answered (Refused by) (resource_of_event e))
+      × (given_up h new ≡ false))
 
 module _ {R : Type 0} (limits : Limits) (formed : IsWellFormed (empty_of limits)) (log : List (Step R)) (seat : ℕ)
     (sits : seat < limits.sessions + 3) (all : AllSit (limits.sessions + 3) log) where
@@ -153,10 +170,10 @@ module _ {R : Type 0} (limits : Limits) (formed : IsWellFormed (empty_of limits)
   plainly : (h new : History R) (e : Event R) (reply : Reply R) (chosen : Chosen) → Leads limits log h.core (trace h.base h.entries)
       → IsStep h.core e reply chosen new.core
       → new.base ≡ h.base → new.entries ≡ h.entries ++ step_entry (step seat e reply false) chosen → new.limits ≡ limits
-      → added seat h e reply new ≡ step seat e reply false ∷ []
+      → added seat h e reply new ≡ step seat e reply false ∷ [] → is_cut h e ≡ false
       → added seat h e reply new ≡ with_cut seat h e reply (is_cut h e)
       → Tells limits log seat h e reply (added seat h e reply new) new
-  plainly h new e reply chosen run now base entries limits_are is told =
+  plainly h new e reply chosen run now base entries limits_are is no_cut told =
       let s = step seat e reply false in
       let t : trace h.base (h.entries ++ step_entry s chosen) ≡ trace new.base new.entries = λ i. trace (sym base i) (sym entries i) in
       let leads = subst (Leads limits (log ++ s ∷ []) new.core) t
@@ -165,17 +182,21 @@ module _ {R : Type 0} (limits : Limits) (formed : IsWellFormed (empty_of limits)
         leads = subst (λ l. Leads limits (log ++ l) new.core (trace new.base new.entries)) (sym is) leads;
         limits_are = limits_are;
         seats = subst (λ l. AllSit (limits.sessions + 3) (log ++ l)) (sym is) (sit_more _ log s all sits);
-        fate = inl told;
+        fate = inl (
+          told,
+          stays_open h.core.machine.cycle_open h.base new.base base
+              ∙ sym (ap (λ b. b && h.core.machine.cycle_open) no_cut),
+        );
       }
 
   -- a step of the core, after a cut that gave up no cycle
   after_shut : (h new : History R) (e : Event R) (reply : Reply R) (chosen : Chosen) → Leads limits log h.core (trace h.base h.entries)
       → IsStep h.core e reply chosen new.core
       → new.base ≡ last h → new.entries ≡ step_entry (step seat e reply true) chosen → new.limits ≡ limits
-      → added seat h e reply new ≡ step seat e reply true ∷ []
+      → h.core.machine.cycle_open ≡ false → added seat h e reply new ≡ step seat e reply true ∷ []
       → added seat h e reply new ≡ with_cut seat h e reply (is_cut h e)
       → Tells limits log seat h e reply (added seat h e reply new) new
-  after_shut h new e reply chosen run now base entries limits_are is told =
+  after_shut h new e reply chosen run now base entries limits_are shut is told =
       let s = step seat e reply true in
       let t : trace (last h) (step_entry s chosen) ≡ trace new.base new.entries = λ i. trace (sym base i) (sym entries i) in
       let leads = subst (Leads limits (log ++ s ∷ []) new.core) t
@@ -184,7 +205,11 @@ module _ {R : Type 0} (limits : Limits) (formed : IsWellFormed (empty_of limits)
         leads = subst (λ l. Leads limits (log ++ l) new.core (trace new.base new.entries)) (sym is) leads;
         limits_are = limits_are;
         seats = subst (λ l. AllSit (limits.sessions + 3) (log ++ l)) (sym is) (sit_more _ log s all sits);
-        fate = inl told;
+        fate = inl (
+          told,
+          ap (λ b. b && not (new.base == h.base)) shut ∙ sym (and_false (is_cut h e))
+              ∙ ap (λ b. is_cut h e && b) (sym shut),
+        );
       }
 
   -- and after one that gave one up
@@ -192,10 +217,10 @@ module _ {R : Type 0} (limits : Limits) (formed : IsWellFormed (empty_of limits)
       → Leads limits log h.core (trace h.base h.entries)
       → IsStep h.core (Asks Abandon) (Answered (Truth true) None) chosen' mid → IsStep mid e reply chosen new.core
       → new.base ≡ last h + 1 → new.entries ≡ step_entry (step seat e reply true) chosen → new.limits ≡ limits
-      → added seat h e reply new ≡ gave_up seat true ++ step seat e reply true ∷ []
+      → is_cut h e ≡ true → h.core.machine.cycle_open ≡ true → added seat h e reply new ≡ gave_up seat true ++ step seat e reply true ∷ []
       → added seat h e reply new ≡ with_cut seat h e reply (is_cut h e)
       → Tells limits log seat h e reply (added seat h e reply new) new
-  after_open h new mid e reply chosen chosen' run gives now base entries limits_are is told =
+  after_open h new mid e reply chosen chosen' run gives now base entries limits_are cuts opened is told =
       let up : Step R = step seat (Asks Abandon) (Answered (Truth true) None) false in
       let s = step seat e reply true in
       let given = h.entries ++ step_entry up chosen' in
@@ -203,6 +228,7 @@ module _ {R : Type 0} (limits : Limits) (formed : IsWellFormed (empty_of limits)
       let second = one (log ++ up ∷ []) mid new.core (trace h.base given) e reply true chosen first now in
       let long : length given ≡ length h.entries + 1 = length-append h.entries (step_entry up chosen') in
       let higher : h.base + length given ≡ new.base = omega (arith, base, long) in
+      let further : h.base < new.base = omega (arith, base) in
       let t : trace (h.base + length given) (step_entry s chosen) ≡ trace new.base new.entries = λ i. trace (higher i) (sym entries i) in
       let leads = subst (Leads limits ((log ++ up ∷ []) ++ s ∷ []) new.core) t second in
       let joined = append_assoc log (up ∷ []) (s ∷ []) in
@@ -212,7 +238,11 @@ module _ {R : Type 0} (limits : Limits) (formed : IsWellFormed (empty_of limits)
         limits_are = limits_are;
         seats = subst (λ l. AllSit (limits.sessions + 3) (log ++ l)) (sym is)
             (subst (AllSit (limits.sessions + 3)) joined (sit_more _ (log ++ up ∷ []) s (sit_more _ log up all sits) sits));
-        fate = inl told;
+        fate = inl (
+          told,
+          ap (λ b. b && not (new.base == h.base)) opened ∙ moves_on h.base new.base further
+              ∙ sym (ap (λ b. b && h.core.machine.cycle_open) cuts ∙ opened),
+        );
       }
 
   -- ---- Each kind of event
@@ -247,7 +277,8 @@ module _ {R : Type 0} (limits : Limits) (formed : IsWellFormed (empty_of limits)
       plainly h new e reply x.chosen run x.step (ap {A = History R} {B = ℕ} (λ y. y.base) x.adds)
       (ap {A = History R} {B = List Entry} (λ y. y.entries) x.adds
       ∙ ap (λ l. h.entries ++ l) (sym (as_seated seat e reply false x.chosen written)))
-      (ap {A = History R} {B = Limits} (λ y. y.limits) x.adds ∙ limits_are) (added_plain h new e reply may) (told_plain h new e reply may)
+      (ap {A = History R} {B = Limits} (λ y. y.limits) x.adds ∙ limits_are) (added_plain h new e reply may)
+      (ap (λ b. b && is_trace_full h) may) (told_plain h new e reply may)
 
   by_end : (h new : History R) (e : Event R) (reply : Reply R) → Leads limits log h.core (trace h.base h.entries) → h.limits ≡ limits
       → may_cut (ask_of e) ≡ false → is_ending (ask_of e) ≡ true
@@ -261,7 +292,8 @@ module _ {R : Type 0} (limits : Limits) (formed : IsWellFormed (empty_of limits)
       plainly h new e reply x.steps.0 run x.steps.1 (ap {A = History R} {B = ℕ} (λ y. y.base) x.stays)
       (ap {A = History R} {B = List Entry} (λ y. y.entries) x.stays ∙ sym (append-nil h.entries)
       ∙ ap (λ l. h.entries ++ l) (sym (as_none seat e reply false x.steps.0 refused)))
-      (ap {A = History R} {B = Limits} (λ y. y.limits) x.stays ∙ limits_are) (added_plain h new e reply may) (told_plain h new e reply may)
+      (ap {A = History R} {B = Limits} (λ y. y.limits) x.stays ∙ limits_are) (added_plain h new e reply may)
+      (ap (λ b. b && is_trace_full h) may) (told_plain h new e reply may)
 
   by_ask : (h new : History R) (e : Event R) (reply : Reply R) (ask : Ask) → ask_of e ≡ Some ask → is_end ask ≡ false → IsHistory h
       → Leads limits log h.core (trace h.base h.entries) → h.limits ≡ limits
@@ -271,12 +303,16 @@ module _ {R : Type 0} (limits : Limits) (formed : IsWellFormed (empty_of limits)
       let here : Leads limits (log ++ []) new.core (trace new.base new.entries) =
       subst (λ l. Leads limits l new.core (trace new.base new.entries)) (sym (append-nil log))
       (subst (λ (k : History R). Leads limits log k.core (trace k.base k.entries)) (sym x.same) run) in
+      let stays = stays_open h.core.machine.cycle_open h.base new.base (ap {A = History R} {B = ℕ} (λ y. y.base) x.same) in
       record {
         leads = subst (λ l. Leads limits (log ++ l) new.core (trace new.base new.entries)) (sym none) here;
         limits_are = ap {A = History R} {B = Limits} (λ y. y.limits) x.same ∙ limits_are;
         seats = subst (λ l. AllSit (limits.sessions + 3) (log ++ l)) (sym none)
             (subst (AllSit (limits.sessions + 3)) (sym (append-nil log)) all);
-        fate = elim x.why [ inl w ↦ inr (none, may, NoMemory, inl refl, w.1) | inr w ↦ inr (none, may, Exhausted, inr (refl, w.0), w.1) ];
+        fate = elim x.why [
+          | inl w ↦ inr (none, may, NoMemory, inl refl, w.1, stays)
+          | inr w ↦ inr (none, may, Exhausted, inr (refl, w.0), w.1, stays)
+        ];
       }
   by_ask h new e reply ask asks end is run limits_are may (inl x) =
       let more = one_more h new is seat e reply ask asks x.ready (ready_stands h is x.ready x.readies) x.enters in
@@ -302,7 +338,8 @@ module _ {R : Type 0} (limits : Limits) (formed : IsWellFormed (empty_of limits)
             (entries ∙ ap {A = History R} {B = List Entry}
             (λ y. y.entries ++ option_to_list (seated seat (ask_of e) (answer_in reply) x.enters.chosen)) same
             ∙ ap (λ l. h.entries ++ l) (sym (as_seated seat e reply false x.enters.chosen written)))
-            (same_limits ∙ ap {A = History R} {B = Limits} (λ y. y.limits) same ∙ limits_are) (told ∙ is_short) as_cut
+            (same_limits ∙ ap {A = History R} {B = Limits} (λ y. y.limits) same ∙ limits_are) (told ∙ is_short)
+            (ap (λ b. b && is_trace_full h) may ∙ ap not short) as_cut
         | false ↦ λ full cut.
             let full_is : with_cut seat h e reply (is_trace_full h) ≡ with_cut seat h e reply true =
             ap (λ b. with_cut seat h e reply (not b)) full in
@@ -311,25 +348,24 @@ module _ {R : Type 0} (limits : Limits) (formed : IsWellFormed (empty_of limits)
             (λ l. l ++ option_to_list (seated seat (ask_of e) (answer_in reply) x.enters.chosen)) cut.entries
             ∙ sym (as_seated seat e reply true x.enters.chosen written) in
             cut_case h new e reply x.ready x.enters.chosen run cut x.enters.step base fresh (same_limits ∙ cut.limits ∙ limits_are)
-            (told ∙ full_is) as_cut (h.core.machine.cycle_open) refl
+            (told ∙ full_is) (ap (λ b. b && is_trace_full h) may ∙ ap not full) as_cut (h.core.machine.cycle_open) refl
       ] refl x.readies
     where
       cut_case : (h new : History R) (e : Event R) (reply : Reply R) (ready : History R) (chosen : Chosen)
           → Leads limits log h.core (trace h.base h.entries) → Cuts h ready → IsStep ready.core e reply chosen new.core
           → new.base ≡ ready.base → new.entries ≡ step_entry (step seat e reply true) chosen → new.limits ≡ limits
-          → added seat h e reply new ≡ with_cut seat h e reply true
+          → added seat h e reply new ≡ with_cut seat h e reply true → is_cut h e ≡ true
           → added seat h e reply new ≡ with_cut seat h e reply (is_cut h e) → (b : Bool) → h.core.machine.cycle_open ≡ b
           → Tells limits log seat h e reply (added seat h e reply new) new
-      cut_case h new e reply ready chosen run cut now base fresh limits_are told as_cut true opened =
+      cut_case h new e reply ready chosen run cut now base fresh limits_are told cuts as_cut true opened =
           let gives = subst (λ b. GivesUp b h.core ready.core) opened cut.gives_up in
           after_open h new ready.core e reply chosen gives.0 run gives.1 now (base ∙ cut.base ∙ ap (λ b. last h + cond b 1 0) opened) fresh
-          limits_are
-          (told ∙ ap (λ b. gave_up seat b ++ step seat e reply true ∷ []) opened) as_cut
-      cut_case h new e reply ready chosen run cut now base fresh limits_are told as_cut false shut =
+          limits_are cuts opened (told ∙ ap (λ b. gave_up seat b ++ step seat e reply true ∷ []) opened) as_cut
+      cut_case h new e reply ready chosen run cut now base fresh limits_are told cuts as_cut false shut =
           let same = subst (λ b. GivesUp b h.core ready.core) shut cut.gives_up in
           let higher : new.base ≡ last h = let there = base ∙ cut.base ∙ ap (λ b. last h + cond b 1 0) shut in omega (arith, there) in
           after_shut h new e reply chosen run (subst (λ (k : Kept R). IsStep k e reply chosen new.core) same now) higher fresh limits_are
-          (told ∙ ap (λ b. gave_up seat b ++ step seat e reply true ∷ []) shut) as_cut
+          shut (told ∙ ap (λ b. gave_up seat b ++ step seat e reply true ∷ []) shut) as_cut
 
   tells_by : (h new : History R) (e : Event R) (reply : Reply R) → IsHistory h → Leads limits log h.core (trace h.base h.entries)
       → h.limits ≡ limits → BookSteps seat h e reply new → Tells limits log seat h e reply (added seat h e reply new) new
@@ -362,12 +398,14 @@ whole_now limits log now seat h new e reply w t =
 
 pub locked_now : {R : Type 0} (limits : Limits) (d : Dues) (log now : List (Step R)) (seat : ℕ) (h new : History R) (e : Event R)
     (reply : Reply R) → seat < 256 → IsLocked limits h d log → Tells limits log seat h e reply now new
-    → IsLocked limits new (dues_after seat (effect_of e) reply d) (log ++ now)
+    → IsLocked limits new (dues_after seat (effect_of e) reply (owing_where (given_up h new) d)) (log ++ now)
 locked_now limits d log now seat h new e reply sits l t = record {
   whole = whole_now limits log now seat h new e reply l.whole t;
   shows = elim t.fate [
-    | inl x ↦ shown_now d log now seat e reply (is_cut h e) (is_cut h e && h.core.machine.cycle_open) sits x l.shows
-    | inr x ↦ shown_declined d log now seat e reply x.2 x.0 (elim x.3 [ inl why ↦ inl why | inr why ↦ inr why.0 ]) x.4 l.shows
+    | inl x ↦ subst (λ b. Shows (dues_after seat (effect_of e) reply (owing_where b d)) (log ++ now)) (sym x.1)
+        (shown_now d log now seat e reply (is_cut h e) (is_cut h e && h.core.machine.cycle_open) sits x.0 l.shows)
+    | inr x ↦ subst (λ b. Shows (dues_after seat (effect_of e) reply (owing_where b d)) (log ++ now)) (sym x.5)
+        (shown_declined d log now seat e reply x.2 x.0 (elim x.3 [ inl why ↦ inl why | inr why ↦ inr why.0 ]) x.4 l.shows)
   ];
 }
 
@@ -402,7 +440,7 @@ asked {R} limits old new n all now h book e reply is knows seat known w t = elim
       others = ap (λ k. own seat_of k knows.0) is ∙ knows.2;
       book = h;
       lay = subst (IsWhole limits h) knows.1 w;
-      known = known ∙ ap (λ l. all ++ l) x ∙ ap (λ l. l ++ with_cut n h e reply (is_cut h e)) knows.1
+      known = known ∙ ap (λ l. all ++ l) x.0 ∙ ap (λ l. l ++ with_cut n h e reply (is_cut h e)) knows.1
           ∙ ap (λ k. (old.known ++ knows.0) ++ with_cut k h e reply (is_cut h e)) (sym is);
       legal = (book, subst (IsWhole limits book) (sym known) (whole_now limits all now n h book e reply w t));
     }),

@@ -1,5 +1,5 @@
 -- When a cycle is due in a hall: where a quarter of the cells was taken since the last collection, or where, since one
--- last began, a session left with resources open or there was no room for a resource.
+-- last began, a session left with resources open, there was no room for a resource, or it was given up.
 use Rattle.std.specs.Prelude.{◌≡◌, ◌≢◌, ◌⊎◌, ◌+◌, ◌-◌, ◌&&◌, ℕ, Bool, true, false, not, cond, nat_lt, List, [], ◌∷◌}
 use Rattle.std.specs.Prelude.{◌++◌, Option, Some, is_some, fold, All}
 use Rattle.jlr_types.specs.declared.limits.Limits.{Limits}
@@ -7,7 +7,7 @@ use Rattle.jlr_types.specs.declared.Refusal.TheVariants.{ResourcesFull}
 use Rattle.jlr_machine.specs.declared.ask.Answer.{Answer}
 use Rattle.jlr_machine.specs.declared.ask.Answer.TheVariants.{Done, Handle, Refused, Truth}
 use Rattle.jlr_event.specs.declared.event.Event.{Event}
-use Rattle.jlr_machine.specs.declared.ask.Ask.TheVariants.{Begin, Clean, Close, Full, Leave, Prepare}
+use Rattle.jlr_machine.specs.declared.ask.Ask.TheVariants.{Abandon, Begin, Clean, Close, Full, Leave, Prepare}
 use Rattle.jlr_event.specs.declared.event.Event.TheVariants.{Ask as Asks, Opened}
 use Rattle.jlr_event.specs.declared.event.Reply.{Reply}
 use Rattle.jlr_event.specs.Events.{answer_in, resource_of_reply}
@@ -28,6 +28,11 @@ abbrev pub is_collected : Option Answer → Bool
 is_collected (Some (Truth began)) = began
 is_collected (Some Done) = true
 is_collected answer = false
+
+-- an open cycle was given up
+abbrev pub is_given_up : Option Answer → Bool
+is_given_up (Some (Truth was_open)) = was_open
+is_given_up answer = false
 
 -- there is no room for a resource
 abbrev pub is_resources_full : Option Answer → Bool
@@ -52,10 +57,11 @@ module _ {R : Type 0} where
 
   -- ---- What is owed
 
-  -- a session leaves that has so many open, or there is no room for a resource
+  -- a session leaves that has so many open, there is no room for a resource, or an open cycle is given up
   abbrev pub owes : ℕ → Event R → Reply R → Bool
   owes n (Asks (Leave k)) reply = not (is_refused_reply (answer_in reply)) && nat_lt 0 n
   owes n (Asks (Prepare k)) reply = is_resources_full (answer_in reply)
+  owes n (Asks Abandon) reply = is_given_up (answer_in reply)
   owes n event reply = false
 
   -- a cycle begins, or all is collected at once

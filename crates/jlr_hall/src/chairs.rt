@@ -42,8 +42,7 @@ pub(crate) struct Chairs {
     seated: u32,
     /// No `remove` waits any more.
     nobody_waits: bool,
-    /// How often something was closed: a client stood up, a session left at whose seat none sat, or a job ended; modulo
-    /// 2^64.
+    /// How often something was closed, modulo 2^64: a client stood up, or a job ended.
     closings: u64,
 }
 
@@ -120,17 +119,9 @@ impl Chairs {
     pub(crate) fn after<R>(&mut self, effect: Effect, reply: &Reply<R>) {
         match effect {
             Effect::Joins if !was_refused(reply) => self.joined = self.joined.saturating_add(1),
-            Effect::Leaves if !was_refused(reply) => self.leave(),
+            Effect::Leaves if !was_refused(reply) => self.joined = self.joined.saturating_sub(1),
             Effect::Finishes => self.closings = self.closings.wrapping_add(1),
             _ => {}
-        }
-    }
-
-    /// A session left. Where clients sit, its connection is closed once its client stands up.
-    fn leave(&mut self) {
-        self.joined = self.joined.saturating_sub(1);
-        if self.seated == 0 {
-            self.closings = self.closings.wrapping_add(1);
         }
     }
 

@@ -1,10 +1,10 @@
 //! How many resources the sessions have open, and whether a cycle is owed, as the one history says it: kept step by
 //! step, so that nobody has to read the history, which exists in proofs alone.
 ghost use Rattle.std.specs.Prelude.{◌≡◌, ◌-◌, ◌+◌, ◌^◌, ℕ, ◌<◌, false, length};
-ghost use Rattle.jlr_hall.specs.Locking.{dues_after, count_at, with_count, without};
+ghost use Rattle.jlr_hall.specs.Locking.{dues_after, count_at, owing_where, with_count, without};
 
 use crate::effect::{
-    Effect, gave_handle, gave_resource, lacks_resources, says_collected, was_refused,
+    Effect, gave_handle, gave_resource, lacks_resources, says_collected, says_given_up, was_refused,
 };
 use jlr_event::event::Reply;
 
@@ -17,7 +17,8 @@ pub(crate) struct Dues {
     /// For each seat: how many resources its session opened, less those that it closed itself. A count fits, since each
     /// opening is an entry.
     opened: [u64; NUMBERS],
-    /// A cycle is owed to what sessions left open, or to one that found no room for a resource.
+    /// A cycle is owed to what sessions left open, to one that found no room for a resource, or in place of one that
+    /// was given up.
     owed: bool,
 }
 
@@ -62,11 +63,8 @@ impl Dues {
                     self.close(seat);
                 }
             }
-            Effect::Prepares => {
-                if lacks_resources(reply) {
-                    self.owed = true;
-                }
-            }
+            Effect::Prepares => self.owe_where(lacks_resources(reply)),
+            Effect::Abandons => self.owe_where(says_given_up(reply)),
             Effect::Collects => {
                 if says_collected(reply) {
                     self.owed = false;
@@ -74,6 +72,13 @@ impl Dues {
             }
             Effect::Nothing | Effect::Queues | Effect::Joins | Effect::Finishes => {}
         }
+    }
+
+    /// A cycle is owed where this is so.
+    pub(crate) fn owe_where(&mut self, is_so: bool)
+        ensures { self.new ≡ owing_where is_so self.old }
+    {
+        self.owed = is_so || self.owed;
     }
 
     /// A session opened a resource.

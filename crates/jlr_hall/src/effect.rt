@@ -2,7 +2,7 @@
 ghost use Rattle.std.specs.Prelude.{◌≡◌, is_some, MatchOption, None, Some};
 ghost use Rattle.jlr_event.specs.Events.{answer_in, resource_of_reply};
 ghost use Rattle.jlr_hall.specs.OneHistory.{is_refused_reply};
-ghost use Rattle.jlr_hall.specs.Due.{is_collected, is_resources_full, answers_handle};
+ghost use Rattle.jlr_hall.specs.Due.{is_collected, is_given_up, is_resources_full, answers_handle};
 ghost use Rattle.jlr_hall.specs.Locking.{effect_of, effect_of_ask};
 
 use jlr_event::event::{Event, Reply};
@@ -27,6 +27,8 @@ pub(crate) enum Effect {
     Finishes,
     /// What is unreachable is found out.
     Collects,
+    /// An open cycle is given up.
+    Abandons,
 }
 
 impl Effect {
@@ -53,6 +55,7 @@ impl Effect {
             Ask::Clean { .. } | Ask::Close { .. } => Effect::Closes,
             Ask::Finish { .. } => Effect::Finishes,
             Ask::Begin | Ask::Full { .. } => Effect::Collects,
+            Ask::Abandon => Effect::Abandons,
             _ => Effect::Nothing,
         }
     }
@@ -88,6 +91,13 @@ pub(crate) fn says_collected<R>(reply: &Reply<R>) -> bool
     ensures { result ≡ is_collected (answer_in reply.now) }
 {
     matches!(answer_of(reply), Some(Answer::Truth(true) | Answer::Done))
+}
+
+/// Whether an open cycle was given up.
+pub(crate) fn says_given_up<R>(reply: &Reply<R>) -> bool
+    ensures { result ≡ is_given_up (answer_in reply.now) }
+{
+    matches!(answer_of(reply), Some(Answer::Truth(true)))
 }
 
 /// Whether a handle was given.

@@ -1,5 +1,5 @@
 //! One book under one lock, asked by many seats.
-ghost use Rattle.std.specs.Prelude.{◌≡◌, ◌≢◌, ◌↔◌, ◌+◌, ◌^◌, ◌<◌, ◌++◌, [], IsTrue, false};
+ghost use Rattle.std.specs.Prelude.{◌≡◌, ◌≢◌, ◌↔◌, ◌+◌, ◌^◌, ◌<◌, ◌++◌, ◌&&◌, ◌==◌, [], IsTrue, not, false};
 ghost use Rattle.std.specs.Sync.Mutex.{mutex_guard_value};
 ghost use Rattle.jlr_machine.specs.Data.{Brings};
 ghost use Rattle.jlr_event.specs.Asks.{hands_in};
@@ -40,8 +40,17 @@ pub(crate) struct Locked<R, L: Naming + Limited> {
     pub(crate) book: Book<R>,
     pub(crate) keeper: Keeper<Step<R>, L>,
     pub(crate) stopped: bool,
+    pub(crate) resting: Resting,
     chairs: Chairs,
     dues: Dues,
+}
+
+/// Which loops wait for the next event, since what they asked was refused: what they would find is not done before.
+#[derive(Clone, Copy)]
+pub(crate) struct Resting {
+    pub(crate) marker: bool,
+    pub(crate) handler: bool,
+    pub(crate) cleaner: bool,
 }
 
 impl<R, L: Naming + Limited> Model for Locked<R, L> {
@@ -75,6 +84,11 @@ impl<R: Drop, L: Naming + Limited> Locked<R, L> {
             book,
             keeper,
             stopped: false,
+            resting: Resting {
+                marker: false,
+                handler: false,
+                cleaner: false,
+            },
             chairs: Chairs::new(),
             dues: Dues::new(),
         }
@@ -107,14 +121,17 @@ impl<R: Drop, L: Naming + Limited> Locked<R, L> {
         book.is_history();
         let was = Snapshot::of(&*book);
         let asked = Snapshot::of(&event);
+        let cycle_open = book.cycle_open();
+        let base = book.base();
         let reply = book.step(seat, event, room);
         note::<R, L, Brand>(log, keeper, pass, seat, &was, &asked, &reply, book);
+        dues.owe_where(was_given_up(cycle_open, base, book));
         dues.after(seat, effect, &reply);
         reply
     }
 
     /// Whether a cycle is to begin: none is open, and the book says that one is due, or since the last one began a
-    /// session left with resources open or there was no room for a resource.
+    /// session left with resources open, there was no room for a resource, or it was given up.
     pub(crate) fn is_due(&self) -> bool
         ensures due { IsTrue result ↔ IsDueIn self.now.book self.now.log }
         ensures whole { IsWhole L.limits self.now.book self.now.log }
@@ -166,9 +183,12 @@ impl<R: Drop, L: Naming + Limited> Locked<R, L> {
         seats
     }
 
-    /// Whether something may still be closed: a session's connection, or what a cycle or the cleaner would find.
+    /// Whether something may still be closed: a session's connection, or what a loop that does not rest would find.
     fn may_close(&self) -> bool {
-        self.chairs.is_any_there() || self.has_marking() || self.has_pending() || self.has_line()
+        self.chairs.is_any_there()
+            || !self.resting.marker && self.has_marking()
+            || !self.resting.handler && self.has_pending()
+            || !self.resting.cleaner && self.has_line()
     }
 
     /// What an answered event means for who waits. Who would find something to do now.
@@ -190,6 +210,13 @@ impl<R: Drop, L: Naming + Limited> Locked<R, L> {
             ) || !self.may_close(),
         }
     }
+}
+
+/// Whether a step of a book, which had a cycle open or none and this base, gave a cycle up: for a cut.
+fn was_given_up<R: Drop>(cycle_open: bool, base: u64, book: &Book<R>) -> bool
+    ensures { result ≡ (cycle_open && not (book.now.base == base)) }
+{
+    cycle_open && book.base() != base
 }
 
 /// What the core was asked and answered stands in the history from here on.
@@ -284,8 +311,7 @@ impl<R: Drop, L: Naming + Limited> Hall<R, L> {
         self.wake_removers();
     }
 
-    /// How often something was closed, modulo 2^64: a client stood up, a session left at whose seat none sat, or a job
-    /// ended.
+    /// How often something was closed, modulo 2^64: a client stood up, or a job ended.
     pub fn closings<T: Wait>(&self, rt: &T) -> u64 {
         self.locked.lock(rt).chairs.closings()
     }

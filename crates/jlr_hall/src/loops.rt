@@ -39,11 +39,14 @@ impl<R: Drop, L: Naming + Limited> Hall<R, L> {
         Some(locked)
     }
 
-    /// Waits until the handler is woken, unless the hall is to end.
+    /// The handler rests until it is woken, unless the hall is to end. Whoever waits for what it closes looks again.
     fn wait_for_handler<T: Wait>(&self, rt: &T) {
-        let locked = self.locked.lock(rt);
+        let mut locked = self.locked.lock(rt);
         if !locked.stopped {
-            drop(self.handler.wait(rt, locked));
+            locked.resting.handler = true;
+            self.closed.notify_all();
+            locked = self.handler.wait(rt, locked);
+            locked.resting.handler = false;
         }
     }
 
@@ -60,11 +63,14 @@ impl<R: Drop, L: Naming + Limited> Hall<R, L> {
         Some(locked)
     }
 
-    /// Waits until the cleaner is woken, unless the hall is to end.
+    /// The cleaner rests until it is woken, unless the hall is to end. Whoever waits for what it closes looks again.
     fn wait_for_cleaner<T: Wait>(&self, rt: &T) {
-        let locked = self.locked.lock(rt);
+        let mut locked = self.locked.lock(rt);
         if !locked.stopped {
-            drop(self.cleaner.wait(rt, locked));
+            locked.resting.cleaner = true;
+            self.closed.notify_all();
+            locked = self.cleaner.wait(rt, locked);
+            locked.resting.cleaner = false;
         }
     }
 
@@ -81,11 +87,14 @@ impl<R: Drop, L: Naming + Limited> Hall<R, L> {
         Some(locked)
     }
 
-    /// Waits until the marker is woken, unless the hall is to end.
+    /// The marker rests until it is woken, unless the hall is to end. Whoever waits for what it closes looks again.
     fn wait_for_marker<T: Wait>(&self, rt: &T) {
-        let locked = self.locked.lock(rt);
+        let mut locked = self.locked.lock(rt);
         if !locked.stopped {
-            drop(self.marker.wait(rt, locked));
+            locked.resting.marker = true;
+            self.closed.notify_all();
+            locked = self.marker.wait(rt, locked);
+            locked.resting.marker = false;
         }
     }
 }

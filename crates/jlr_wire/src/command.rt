@@ -9,7 +9,7 @@ ghost use Rattle.jlr_wire.specs.Reading.{reading};
 ghost use Rattle.jlr_wire.specs.Commands.{IsCommand};
 ghost use Rattle.jlr_wire.specs.Fields.{is_space};
 
-use crate::cut::cut_at;
+use crate::cut::cut_field;
 use crate::integer::integer;
 use crate::layout::layout;
 use crate::number::{count, field, length, note, number};
@@ -406,16 +406,16 @@ fn four_fields<'a>(word: &[u8], a: &[u8], b: &[u8], c: &[u8]) -> Option<Command<
 fn command_in<'a>(line: &'a [u8]) -> Option<Command<'a>>
     ensures { result ≡ reading (slice_split is_space line.now) }
 {
-    let Some((word, rest)) = cut_at(line, b' ') else {
+    let Some((word, rest)) = cut_field(line) else {
         return one_field(line);
     };
-    let Some((a, rest)) = cut_at(rest, b' ') else {
+    let Some((a, rest)) = cut_field(rest) else {
         return two_fields(word, rest);
     };
-    let Some((b, rest)) = cut_at(rest, b' ') else {
+    let Some((b, rest)) = cut_field(rest) else {
         return three_fields(word, a, rest);
     };
-    match cut_at(rest, b' ') {
+    match cut_field(rest) {
         Some(_) => None,
         None => four_fields(word, a, b, rest),
     }
