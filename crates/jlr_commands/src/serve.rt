@@ -149,8 +149,8 @@ fn served<T: Threads + Wait + Sync>(
     }
 }
 
-/// What is left of what was served. The book is let go.
-fn closed_of<R: Drop>(alloc: Global, served: Served<R>, saves: bool) -> Closed
+/// What is left of what was served. The book and the devices are let go.
+fn closed_of<R: Drop, D: Drop>(alloc: Global, served: Served<R, D>, saves: bool) -> Closed
     ensures accepts { (result.accepts ≡ served.accepts) × (result.missed ≡ served.missed) }
     ensures entries { result.entries ≡ last served.book }
     ensures saved { IsTrue saves ↔ IsSome result.history }
@@ -160,7 +160,9 @@ fn closed_of<R: Drop>(alloc: Global, served: Served<R>, saves: bool) -> Closed
         accepts,
         missed,
         book,
+        devices,
     } = served;
+    drop(devices);
     let entries = book.last();
     let history = history_of(alloc, &book, saves);
     drop(book);

@@ -1,6 +1,8 @@
 -- What is done at a seat, one session more.
 use Rattle.std.proofs.Common.{◌≡◌, ◌⊎◌, ◌<◌, ◌+◌, ℕ, List, [], ◌∷◌, ◌++◌, Option, Some, None, Result, Ok, Err, length}
-use Rattle.std.proofs.Common.{refl, sym, ap, ◌∙◌, subst, inl, inr, arith}
+use Rattle.std.proofs.Common.{refl, sym, ap, ◌∙◌, subst, inl, inr, arith, append_assoc}
+use Rattle.std.proofs.lemmas.List.{append-nil}
+use Rattle.std.specs.Option.{option_to_list}
 use Rattle.std.specs.List.{sum_by}
 use Rattle.std.specs.Prelude.{IfOk, IsSome}
 use Rattle.std.proofs.lemmas.List.Sums.{sum_by-append, sum_by-cons}
@@ -16,7 +18,8 @@ use Rattle.jlr_hall.specs.Loops.{AsksOnly, AsksInTurn, CleansIn, IsCleaners, IsH
 use Rattle.jlr_hall.proofs.Turns.{same_seat, asks_none, cleans_none}
 use Rattle.jlr_server.specs.Giving.{Giving}
 use Rattle.jlr_server.specs.declared.acceptor.AcceptId.{AcceptId}
-use Rattle.jlr_server.specs.Serving.{Accepts, AllWork, IsMiss, IsSession, IsWork, ServesClients, Work, accept_at, served, unserved}
+use Rattle.jlr_server.specs.Serving.{Accepts, AllWork, IsMiss, IsSession, IsWork, ServesClients, Work, accept_at, devices_left}
+use Rattle.jlr_server.specs.Serving.{served, unserved}
 
 pub or_then : {A B C : Type 0} → A ⊎ B → (B → C) → A ⊎ C
 or_then (inl a) f = inl a
@@ -40,6 +43,14 @@ served_or_not {X = X} (None ∷ xs) =
 
 pub sum_more : {X : Type 0} (f : X → ℕ) (xs : List X) (x : X) → sum_by f (xs ++ x ∷ []) ≡ sum_by f xs + f x
 sum_more f xs x = omega (arith, sum_by-append f xs (x ∷ []))
+
+-- ---- Their devices
+
+pub left_more : {D R : Type 0} (works : List (Work D R)) (w : Work D R)
+    → devices_left (works ++ w ∷ []) ≡ devices_left works ++ option_to_list w.last
+left_more [] w = append-nil (option_to_list w.last)
+left_more (x ∷ works) w = ap (λ l. option_to_list x.last ++ l) (left_more works w)
+    ∙ sym (append_assoc (option_to_list x.last) (devices_left works) (option_to_list w.last))
 
 -- ---- What is done at a seat
 

@@ -2,3 +2,4 @@
 pub mod News
 pub mod Giving
 pub mod Serving
+pub mod Tallies

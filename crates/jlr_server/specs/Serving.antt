@@ -1,7 +1,8 @@
 -- What a server did: sessions at the seats of one hall, and the loops beside them, in one history.
-use Rattle.std.specs.Prelude.{◌≡◌, ◌<◌, ◌≤◌, ◌+◌, ◌⊎◌, ℕ, Bool, true, List, [], ◌∷◌, Option, Some, None, length, map}
-use Rattle.std.specs.Prelude.{slice_get}
+use Rattle.std.specs.Prelude.{◌≡◌, ◌<◌, ◌≤◌, ◌+◌, ◌⊎◌, ℕ, Bool, true, List, [], ◌∷◌, ◌++◌, Option, Some, None}
+use Rattle.std.specs.Prelude.{length, map, slice_get}
 use Rattle.std.specs.List.{All, sum_by}
+use Rattle.std.specs.Option.{option_to_list}
 use Rattle.std.specs.Io.KnownBytes.{Appends, Consumes}
 use Rattle.jlr_types.specs.declared.Fault.{Fault}
 use Rattle.jlr_types.specs.declared.limits.Limits.{Limits}
@@ -64,6 +65,11 @@ module _ {D R : Type 0} where
   abbrev pub BeginWith : List D → List (Work D R) → Type 0
   BeginWith devices works = All (λ w. w.first ≡ slice_get devices w.seat.seat) works
 
+  -- the devices of the seats, each as the last session there left it
+  abbrev pub devices_left : List (Work D R) → List D
+  devices_left [] = []
+  devices_left (w ∷ works) = option_to_list w.last ++ devices_left works
+
 module _ {D R : Type 0} (limits : Limits) (device : Opening D R) (attends : D → D → Type 0)
     (handling : Handling R) where
   -- a device attends a client, or none any more
@@ -124,13 +130,14 @@ module _ {D R : Type 0} (limits : Limits) (device : Opening D R) (attends : D �
 
     -- One history, a run of the machine that keeps the promises of the package, ends with this book's trace. It has of
     -- each seat just what that seat did, and each accept is a session or one that gave no client. Each session's seat
-    -- uses the device of its number in a list, and uses it for its sessions alone. There were as many accepts as were
-    -- to be, or fewer where the server was asked to end.
-    pub record IsServed (devices : List D) (total : ℕ) (asked : Bool) (accepts : ℕ) (missed : ℕ) (book : History R)
-        : Type 0 where
+    -- uses the device of its number in a list, and uses it for its sessions alone; then it is given back. There were as
+    -- many accepts as were to be, or fewer where the server was asked to end.
+    pub record IsServed (devices : List D) (left : List D) (total : ℕ) (asked : Bool) (accepts : ℕ) (missed : ℕ)
+        (book : History R) : Type 0 where
       pub works : List (Work D R)
       pub all : AllWork works
       pub began : BeginWith devices works
+      pub given_back : left ≡ devices_left works
       pub one_each : length works ≡ limits.sessions + 3
       pub closes : Closes limits (map seat_in works) book
       pub accepted : accepts ≡ sum_by accepts_of works

@@ -2,10 +2,13 @@
 ghost use Rattle.std.specs.Prelude.{◌≡◌, ◌⊎◌, ◌<◌, ◌≤◌, ◌+◌, ◌-◌, ◌++◌, ◌∷◌, ℕ, true, false, [], List, IfOk, IfSome};
 ghost use Rattle.std.specs.Prelude.{MatchBool, length, map, min, slice_get, slice_index_or, take};
 ghost use Rattle.std.specs.List.{All, sum_by};
+ghost use Rattle.std.specs.Option.{option_to_list};
 ghost use Rattle.std.specs.Thread.{IsSend, IsSync};
 ghost use Rattle.jlr_log.specs.Seeing.{Seen, seen};
 ghost use Rattle.jlr_hall.specs.declared.step.Step.{Step};
-ghost use Rattle.jlr_server.specs.Serving.{AllWork, BeginWith, IsUnasked, IsServed, IsWork, Stays, accepts_of, seat_in};
+ghost use Rattle.jlr_server.specs.Serving.{AllWork, BeginWith, IsUnasked, IsServed, IsWork, Stays, accepts_of};
+ghost use Rattle.jlr_server.specs.Serving.{devices_left, seat_in};
+ghost use Rattle.jlr_server.specs.Tallies.{IsNew};
 ghost use Rattle.jlr_server.specs.declared.server.ServeFault.TheVariants.{Close, NoMemory};
 
 use crate::acceptor::Acceptor;
@@ -28,13 +31,15 @@ use std::thread::{PromisedHandle, Threads};
 
 /// What was served.
 #[derive(Drop)]
-pub struct Served<R> {
+pub struct Served<R, D> {
     /// How many clients were waited for, those that did not come among them.
     pub accepts: u32,
     /// How many of these did not come, or could not be watched.
     pub missed: u32,
     /// The end of the one history.
     pub book: Book<R>,
+    /// The devices, each as the last session at its seat left it.
+    pub devices: Vec<D>,
 }
 
 /// Why nothing is given back of what was served.
@@ -76,8 +81,8 @@ impl From<CloseFault> for ServeFault {
 
 /// What was served, and who watched, as it was left.
 #[derive(Drop)]
-pub struct Watched<R, W> {
-    pub served: Served<R>,
+pub struct Watched<R, D, W> {
+    pub served: Served<R, D>,
     pub watcher: W,
 }
 
@@ -425,7 +430,7 @@ pub fn serve_over<
     acceptor: &A,
     devices: Vec<D>,
     blank: Blank<Step<D::Res>>,
-) -> Result<Served<D::Res>, ServeFault>
+) -> Result<Served<D::Res, D>, ServeFault>
 where
     A::In: Send,
     A::Out: Send,
@@ -435,8 +440,8 @@ where
     requires limits { limits ≡ L.limits }
     ensures served { IfOk result (λ served. IsServed limits
         (record { count = D.count; opens = D.may_open; connects = D.may_connect; failures = D.Res.handling.count })
-        D.may_attend D.Res.handling A.giving A.In.remaining A.Out.contents devices.items total false served.accepts
-        served.missed served.book) }
+        D.may_attend D.Res.handling A.giving A.In.remaining A.Out.contents devices.items served.devices.items
+        total false served.accepts served.missed served.book) }
 {
     let done = serve_watched::<A, D, L, NoWatcher, T>(
         rt, alloc, limits, total, acceptor, NoWatcher, devices, blank,
@@ -468,7 +473,7 @@ pub fn serve_watched<
     watcher: W,
     devices: Vec<D>,
     blank: Blank<Step<D::Res>>,
-) -> Result<Watched<D::Res, W>, ServeFault>
+) -> Result<Watched<D::Res, D, W>, ServeFault>
 where
     A::In: Send,
     A::Out: Send,
@@ -478,8 +483,8 @@ where
     requires limits { limits ≡ L.limits }
     ensures served { IfOk result (λ watched. IsServed limits
         (record { count = D.count; opens = D.may_open; connects = D.may_connect; failures = D.Res.handling.count })
-        D.may_attend D.Res.handling A.giving A.In.remaining A.Out.contents devices.items total (W.asked watched.watcher)
-        watched.served.accepts watched.served.missed watched.served.book) }
+        D.may_attend D.Res.handling A.giving A.In.remaining A.Out.contents devices.items watched.served.devices.items
+        total (W.asked watched.watcher) watched.served.accepts watched.served.missed watched.served.book) }
 {
     let Ok((hall, seats)) = Hall::<D::Res, L>::open(alloc, limits, blank) else {
         drop((devices, watcher));
@@ -489,52 +494,52 @@ where
         drop((hall, watcher));
         return Err(ServeFault::NoMemory);
     };
-    let Ok(room) = Vec::with_capacity(alloc, works.len()) else {
+    let Ok(tally) = Tally::new(alloc, works.len()) else {
         drop((hall, works, watcher));
         return Err(ServeFault::NoMemory);
     };
     let accepts = Accepts::new(total, limits.sessions);
     match run_threads(rt, alloc, &hall, acceptor, &accepts, works, watcher) {
-        Ok((works, heard)) => close(room, hall, works, heard, accepts.made(), total),
+        Ok((works, heard)) => close(tally, hall, works, heard, accepts.made(), total),
         Err(fault) => {
-            drop((hall, accepts, room));
+            drop((hall, accepts, tally));
             Err(fault)
         }
     }
 }
 
 /// What was served, where all seats are there and what was done at them comes to the accepts that were made. The room
-/// for the seats was made before anybody was served, so that this takes no memory.
+/// for the seats and their devices was made before anybody was served, so that this takes no memory.
 ///
 /// # Errors
 /// `Miscounted` and `Close`, which never come, and `NoMemory`, where there were 2^32 accepts or more.
 fn close<A: Acceptor, D: Device + Drop, L: Naming + Limited, W: Watcher + Drop>(
-    room: Vec<Seat<D::Res, L>>,
+    tally: Tally<D, L>,
     hall: Hall<D::Res, L>,
     works: Vec<Worked<A, D, L>>,
     heard: Heard<W>,
     accepts: u32,
     total: u32,
-) -> Result<Watched<D::Res, W>, ServeFault>
+) -> Result<Watched<D::Res, D, W>, ServeFault>
 where
     D::Res: Drop,
-    requires { room.items ≡ [] }
+    requires { IsNew tally }
     ensures served { IfOk result (λ watched. (devices : List D) → BeginWith devices works.items → IsServed L.limits
         (record { count = D.count; opens = D.may_open; connects = D.may_connect; failures = D.Res.handling.count })
-        D.may_attend D.Res.handling A.giving A.In.remaining A.Out.contents devices total (W.asked watched.watcher)
-        watched.served.accepts watched.served.missed watched.served.book) }
+        D.may_attend D.Res.handling A.giving A.In.remaining A.Out.contents devices watched.served.devices.items total
+        (W.asked watched.watcher) watched.served.accepts watched.served.missed watched.served.book) }
 {
     let Heard { watcher, asked } = heard;
     let count = hall.sessions() + 3;
     if works.len() != usize::from(count) {
-        drop((room, hall, works, watcher));
+        drop((tally, hall, works, watcher));
         return Err(ServeFault::Miscounted);
     }
     if !are_enough(accepts, total, asked) {
-        drop((room, hall, works, watcher));
+        drop((tally, hall, works, watcher));
         return Err(ServeFault::Miscounted);
     }
-    let Ok(tally) = taken_apart(room, works) else {
+    let Ok(tally) = taken_apart(tally, works) else {
         drop((hall, watcher));
         return Err(ServeFault::NoMemory);
     };
@@ -542,18 +547,24 @@ where
         drop((hall, tally, watcher));
         return Err(ServeFault::Miscounted);
     }
-    let Tally { seats, missed, .. } = tally;
+    let Tally {
+        seats,
+        devices,
+        missed,
+        ..
+    } = tally;
     match hall.close(seats) {
         Ok(book) => Ok(Watched {
             served: Served {
                 accepts,
                 missed,
                 book,
+                devices,
             },
             watcher,
         }),
         Err(fault) => {
-            drop(watcher);
+            drop((devices, watcher));
             Err(ServeFault::Close(fault))
         }
     }
@@ -566,12 +577,46 @@ fn are_enough(accepts: u32, total: u32, asked: bool) -> bool
     accepts == total || asked && accepts < total
 }
 
-/// The seats, how many accepts there were at all of them, and how many of these gave no client.
+/// The seats with their devices, how many accepts there were at all of them, and how many of these gave no client.
 #[derive(Drop)]
-struct Tally<R, L: Naming + Limited> {
-    seats: Vec<Seat<R, L>>,
+struct Tally<D: Device, L: Naming + Limited> {
+    seats: Vec<Seat<D::Res, L>>,
+    devices: Vec<D>,
     accepts: u32,
     missed: u32,
+}
+
+impl<D: Device + Drop, L: Naming + Limited> Tally<D, L>
+where
+    D::Res: Drop,
+{
+    /// Nothing, with room for so many seats.
+    ///
+    /// # Errors
+    /// `AllocError` where the room cannot be had.
+    fn new(alloc: Global, seats: usize) -> Result<Self, AllocError>
+        ensures { IfOk result (λ tally. IsNew tally) }
+    {
+        Ok(Tally {
+            seats: Vec::with_capacity(alloc, seats)?,
+            devices: Vec::with_capacity(alloc, seats)?,
+            accepts: 0,
+            missed: 0,
+        })
+    }
+}
+
+/// Puts a device, where there is one, behind others.
+///
+/// # Errors
+/// `AllocError` where there is no memory.
+fn keep<D: Drop>(devices: &mut Vec<D>, device: Option<D>) -> Result<(), AllocError>
+    ensures { IfOk result (λ _. devices.new.items ≡ devices.old.items ++ option_to_list device) }
+{
+    if let Some(device) = device {
+        devices.push(device)?;
+    }
+    Ok(())
 }
 
 /// Adds what was done at one seat.
@@ -579,12 +624,13 @@ struct Tally<R, L: Naming + Limited> {
 /// # Errors
 /// `AllocError` where there is no memory, or there were 2^32 accepts or more.
 fn add<A: Acceptor, D: Device + Drop, L: Naming + Limited>(
-    tally: &mut Tally<D::Res, L>,
+    tally: &mut Tally<D, L>,
     work: Worked<A, D, L>,
 ) -> Result<(), AllocError>
 where
     D::Res: Drop,
     ensures seats { IfOk result (λ _. tally.new.seats.items ≡ tally.old.seats.items ++ work.seat ∷ []) }
+    ensures devices { IfOk result (λ _. tally.new.devices.items ≡ tally.old.devices.items ++ option_to_list work.last) }
     ensures accepts { IfOk result (λ _. tally.new.accepts ≡ tally.old.accepts + (work.sessions + work.missed)) }
     ensures missed { IfOk result (λ _. tally.new.missed ≡ tally.old.missed + work.missed) }
     ensures done { IsWork L.limits (record {
@@ -594,26 +640,28 @@ where
       failures = D.Res.handling.count;
     }) D.may_attend D.Res.handling A.giving A.In.remaining A.Out.contents work }
 {
-    let (seat, sessions, missed) = work.into_parts();
+    let (seat, device, sessions, missed) = work.into_parts();
     tally.seats.push(seat)?;
+    keep(&mut tally.devices, device)?;
     let accepts = sessions.checked_add(missed).ok_or(AllocError)?;
     tally.accepts = tally.accepts.checked_add(accepts).ok_or(AllocError)?;
     tally.missed = tally.missed.checked_add(missed).ok_or(AllocError)?;
     Ok(())
 }
 
-/// What was done at all seats, which go to the room for them.
+/// What was done at all seats, which go to the room for them, each with its device.
 ///
 /// # Errors
 /// As `add`.
 fn taken_apart<A: Acceptor, D: Device + Drop, L: Naming + Limited>(
-    room: Vec<Seat<D::Res, L>>,
+    tally: Tally<D, L>,
     works: Vec<Worked<A, D, L>>,
-) -> Result<Tally<D::Res, L>, AllocError>
+) -> Result<Tally<D, L>, AllocError>
 where
     D::Res: Drop,
-    requires { room.items ≡ [] }
+    requires { IsNew tally }
     ensures { IfOk result (λ tally. (tally.seats.items ≡ map seat_in works.items)
+        × (tally.devices.items ≡ devices_left works.items)
         × (tally.accepts ≡ sum_by accepts_of works.items)
         × (tally.missed ≡ sum_by (λ w. w.missed) works.items)
         × AllWork L.limits (record {
@@ -623,11 +671,7 @@ where
           failures = D.Res.handling.count;
         }) D.may_attend D.Res.handling A.giving A.In.remaining A.Out.contents works.items) }
 {
-    let mut tally = Tally {
-        seats: room,
-        accepts: 0,
-        missed: 0,
-    };
+    let mut tally = tally;
     for work in works {
         add(&mut tally, work)?;
     }

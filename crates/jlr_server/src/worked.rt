@@ -296,9 +296,10 @@ where
         self.seat.index()
     }
 
-    /// The seat, how many sessions were served there, and how many accepts gave none. The device is let go.
-    pub(crate) fn into_parts(self) -> (Seat<D::Res, L>, u32, u32)
-        ensures parts { (result.0 ≡ self.seat) × (result.1 ≡ self.sessions) × (result.2 ≡ self.missed) }
+    /// The seat, its device, how many sessions were served there, and how many accepts gave none.
+    pub(crate) fn into_parts(self) -> (Seat<D::Res, L>, Option<D>, u32, u32)
+        ensures parts { (result.0 ≡ self.seat) × (result.1 ≡ self.last) × (result.2 ≡ self.sessions)
+            × (result.3 ≡ self.missed) }
         ensures done { IsWork L.limits (record {
           count = D.count;
           opens = D.may_open;
@@ -313,7 +314,6 @@ where
             missed,
             ..
         } = self;
-        drop(device);
-        (seat, sessions, missed)
+        (seat, device, sessions, missed)
     }
 }

@@ -1,4 +1,5 @@
 //! Clients as text. The expected texts come from the description of the protocol and of the machine.
+mod accepts;
 mod clients;
 mod devices;
 mod gates;

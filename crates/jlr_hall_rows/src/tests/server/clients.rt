@@ -305,7 +305,7 @@ impl<'a> Clients<'a> {
 }
 
 /// Lets others run for a moment.
-fn pause(rt: HostRuntime) {
+pub(super) fn pause(rt: HostRuntime) {
     thread::sleep(&rt, Duration::from_micros(10));
 }
 

@@ -228,7 +228,7 @@ fn are_served<T: Threads + Wait + Sync>(
 }
 
 /// Whether there is a book, which is let go.
-fn has_book<R: Drop>(served: Result<Served<R>, ServeFault>) -> bool {
+fn has_book<R: Drop, D: Drop>(served: Result<Served<R, D>, ServeFault>) -> bool {
     match served {
         Ok(Served { book, .. }) => {
             drop(book);

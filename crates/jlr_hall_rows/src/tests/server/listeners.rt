@@ -116,7 +116,9 @@ fn devices(rt: HostRuntime, sessions: u32) -> Result<Vec<RealDevice>, AllocError
 }
 
 /// What is left where clients were served. The book is let go.
-fn left_of<R: Drop>(served: Result<Watched<R, LineWatcher>, ServeFault>) -> Option<Left> {
+fn left_of<R: Drop, D: Drop>(
+    served: Result<Watched<R, D, LineWatcher>, ServeFault>,
+) -> Option<Left> {
     let Watched {
         served,
         mut watcher,

@@ -78,7 +78,7 @@ fn devices<G: Gate + Copy + Drop>(
 }
 
 /// How many entries the first two seats have, where clients were served. The book is let go.
-fn entries_of<R: Drop>(served: Result<Served<R>, ServeFault>) -> Option<Entries> {
+fn entries_of<R: Drop, D: Drop>(served: Result<Served<R, D>, ServeFault>) -> Option<Entries> {
     let Served { book, .. } = served.ok()?;
     let entries = entries(&book);
     drop(book);

@@ -11,13 +11,14 @@ returns-in-Ok-close g c =
     record {
       served = λ devices began. record {
         works = c.args.works.items;
-        all = told.3;
+        all = told.4;
         began = began;
+        given_back = told.1;
         one_each = search (rules, arith);
         closes = subst (λ (seats : List (Seen (Step g.row.D-Res.Denot))). Closes g.L.Limited.limits seats c.in-Ok-close.book) told.0
             c.in-Ok-close.ensures.closes;
         accepted = search (rules, arith);
-        failed = told.2;
+        failed = told.3;
         as_many = or_then (c.are_enough.ensures c.if-not-are_enough.false) (λ fewer. (c.heard.invariant fewer.0, fewer.1));
       };
     }

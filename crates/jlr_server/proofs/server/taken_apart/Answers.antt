@@ -3,9 +3,10 @@ use Rattle.std.proofs.lemmas.List.{map-append, map-id}
 use Rattle.std.proofs.lemmas.Iterator.Consumers.{YieldsList-end}
 use Rattle.std.proofs.lemmas.Iterator.Adapters.{YieldsList-from_vec}
 use Rattle.std.specs.List.{sum_by}
+use Rattle.std.specs.Option.{option_to_list}
 use Rattle.jlr_session.specs.Calls.{Opening}
-use Rattle.jlr_server.specs.Serving.{AllWork, Work, accepts_of, seat_in}
-use Rattle.jlr_server.proofs.Works.{all_more, sum_more}
+use Rattle.jlr_server.specs.Serving.{AllWork, Work, accepts_of, devices_left, seat_in}
+use Rattle.jlr_server.proofs.Works.{all_more, left_more, sum_more}
 use Rattle.jlr_server.proofs.server.taken_apart.Goals as goal
 
 pub loop-work-preserved : goal.loop-work-preserved
@@ -15,6 +16,7 @@ loop-work-preserved g c =
     let e = c.in_ok-add.ensures in
     record {
       seats = e.seats ∙ ap (λ l. l ++ w.seat ∷ []) i.seats ∙ sym (map-append seat_in c.loop-work.yielded (w ∷ []));
+      devices = e.devices ∙ ap (λ l. l ++ option_to_list w.last) i.devices ∙ sym (left_more c.loop-work.yielded w);
       accepts = omega (arith, e.accepts, i.accepts, sum_more accepts_of c.loop-work.yielded w);
       missed = omega (arith, e.missed, i.missed, sum_more (λ w. w.missed) c.loop-work.yielded w);
       done = all_more _ _ _ _ _ _ _ c.loop-work.yielded w i.done e.done;
@@ -37,6 +39,7 @@ returns g c =
     c.loop-work.yielded_by c.next.result c.next.new.self c.in-None.is c.next.ensures.steps in
     let all : c.loop-work.yielded ≡ c.args.works.items = sym (map-id c.loop-work.yielded) ∙ end.0 in (
       i.seats ∙ ap (map seat_in) all,
+      i.devices ∙ ap devices_left all,
       i.accepts ∙ ap (sum_by accepts_of) all,
       i.missed ∙ ap (sum_by (λ w. w.missed)) all,
       subst (λ (works : List (Work g.row.D.Denot g.row.D-Res.Denot)). AllWork g.L.Limited.limits device g.D.Device.may_attend
