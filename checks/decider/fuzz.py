@@ -1,6 +1,6 @@
-"""The fuzz of checks/decider.py: many files, and of each its own verdict beside that of the program's `audit`.
+"""The fuzz of checks/decider/decider.py: many files, and of each its own verdict beside that of the program's `audit`.
 
-They are histories of random sessions of the program, and random walks of the machine in decider_machine.py with several sessions,
+They are histories of random sessions of the program, and random walks of the machine in machine.py with several sessions,
 background cycles and full tables; in both versions, also with the machine in their middle as the image; and changes of them, of bytes and
 of well-spelled values.
 """
@@ -14,9 +14,9 @@ import subprocess
 import tempfile
 from dataclasses import replace
 
-import decider_machine as machine
+import machine
 from decider import ENTRY, HEAD, LISTS, OBJECTS, SESSION, History, List, Number, Opt, Rising, Seq, Tagged, Text, read, step, verdict, write
-from decider_machine import Answer, Ask, Call, Image, Why
+from machine import Answer, Ask, Call, Image, Why
 
 # ---- Sessions of the program
 
@@ -73,7 +73,7 @@ class Player:
             return file.read()
 
 
-# ---- Walks of the machine: entries that are legal by decider_machine.py
+# ---- Walks of the machine: entries that are legal by machine.py
 
 ASKS = ENTRY[2].parts[1].bodies
 OFTEN = {

@@ -1,13 +1,13 @@
 #!/usr/bin/env python3
 """Decides saved histories anew, written from docs/trace-file.md and docs/specification.md alone, and compares with what the program says.
 
-    checks/decider.py FILE..
-    checks/decider.py --fuzz PROGRAM [--count N] [--seed S] [--jobs J]
+    checks/decider/decider.py FILE..
+    checks/decider/decider.py --fuzz PROGRAM [--count N] [--seed S] [--jobs J]
 
 Of each FILE a line tells the verdict: `legal N version V`, `illegal K version V`, `truncated`, `bad mark`, `bad version` or `bad entry K`.
-The status is 0 where all are legal, else 3 where none is worse than illegal, else 4. The machine is in decider_machine.py.
+The status is 0 where all are legal, else 3 where none is worse than illegal, else 4. The machine is in machine.py.
 
-With --fuzz it makes N files (2,000 where nothing is said), as decider_fuzz.py tells, and `PROGRAM audit` has to say the same of each.
+With --fuzz it makes N files (2,000 where nothing is said), as fuzz.py tells, and `PROGRAM audit` has to say the same of each.
 A file of which it does not is kept, and the status is 1.
 """
 import argparse
@@ -16,8 +16,8 @@ import sys
 from dataclasses import dataclass
 
 sys.dont_write_bytecode = True
-import decider_machine as machine  # noqa: E402
-from decider_machine import Ask, Image  # noqa: E402
+import machine  # noqa: E402
+from machine import Ask, Image  # noqa: E402
 
 MARK, NO_SLOT = b"JLRT", 0xFFFFFFFF
 
@@ -307,8 +307,8 @@ def main():
     parser.add_argument("--jobs", type=int, default=1)
     options = parser.parse_args()
     if options.fuzz:
-        import decider_fuzz
-        return decider_fuzz.fuzz(os.path.abspath(options.fuzz), options.count, options.seed, options.jobs)
+        import fuzz
+        return fuzz.fuzz(os.path.abspath(options.fuzz), options.count, options.seed, options.jobs)
     worst = 0
     for path in options.files:
         with open(path, "rb") as file:

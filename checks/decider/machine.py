@@ -1,4 +1,4 @@
-"""The machine, for checks/decider.py, from docs/specification.md alone: which images are well formed, and which entries are legal.
+"""The machine, for checks/decider/decider.py, from docs/specification.md alone: which images are well formed, and which entries are legal.
 
 Asks, answers and works are plain values as the file has them: a number, and a tuple of what follows it. A choice is the lists that were
 recorded, each None where the file has none. `load` makes a machine of an image, `is_well_formed` judges it, `step` carries an entry out.
