@@ -1,14 +1,12 @@
 //! Accepts that fail while a client is there, as where descriptors ran out: whoever could not accept waits until a
 //! client has left, so that few accepts are used up.
-ghost use Rattle.std.specs.Prelude.{◌≡◌, IfOk, length};
-
-use super::clients::{After, Client, Clients, Lines, Replies, pause};
-use jlr_device::gate::GateDevice;
+use super::clients::{After, Client, Clients, pause};
+use super::player::devices;
+use jlr_device::gate::{Gate, GateDevice};
 use jlr_server::acceptor::{AcceptId, Acceptor};
 use jlr_server::hall::history::Blank;
 use jlr_server::server::{ServeFault, Served, serve_over};
 use jlr_types::{Fault, Limits};
-use std::alloc::{AllocError, Global};
 use std::marker::Brand;
 use std::sync::Wait;
 use std::sync::atomic::{AtomicU64, Ordering};
@@ -23,14 +21,14 @@ const TURNS: u64 = 1_000_000;
 
 /// Gives one client at a time.
 #[derive(Drop)]
-struct OneAtATime<'a> {
+struct OneAtATime<G> {
     rt: HostRuntime,
-    clients: &'a Clients<'a>,
+    clients: G,
     there: AtomicU64,
     failed: AtomicU64,
 }
 
-impl<'a> OneAtATime<'a> {
+impl<G> OneAtATime<G> {
     /// Waits until an accept has failed, and a while longer.
     fn stay(&self) {
         for _ in 0..TURNS {
@@ -45,17 +43,12 @@ impl<'a> OneAtATime<'a> {
     }
 }
 
-impl<'a> Acceptor for &OneAtATime<'a> {
-    type In = Lines<'a>;
+impl<G: Acceptor> Acceptor for &OneAtATime<G> {
+    type In = G::In;
 
-    type Out = Replies<'a>;
+    type Out = G::Out;
 
-    fn accept<T: Wait>(
-        &self,
-        rt: &T,
-        id: AcceptId,
-        client: u32,
-    ) -> Result<(Lines<'a>, Replies<'a>), Fault> {
+    fn accept<T: Wait>(&self, rt: &T, id: AcceptId, client: u32) -> Result<(G::In, G::Out), Fault> {
         if self.there.fetch_add(1, Ordering::SeqCst) == 0 {
             return self.clients.accept(rt, id, client);
         }
@@ -64,32 +57,11 @@ impl<'a> Acceptor for &OneAtATime<'a> {
         Err(Fault::Other)
     }
 
-    fn leave<T: Wait>(
-        &self,
-        rt: &T,
-        id: AcceptId,
-        client: u32,
-        input: Lines<'a>,
-        output: Replies<'a>,
-    ) {
+    fn leave<T: Wait>(&self, rt: &T, id: AcceptId, client: u32, input: G::In, output: G::Out) {
         self.stay();
         self.clients.leave(rt, id, client, input, output);
         self.there.fetch_sub(1, Ordering::SeqCst);
     }
-}
-
-/// A device for each of two sessions.
-fn devices<'a>(
-    alloc: Global,
-    clients: &'a Clients<'a>,
-) -> Result<Vec<GateDevice<&'a Clients<'a>>>, AllocError>
-    ensures { IfOk result (λ devices. length devices.items ≡ 2) }
-{
-    let mut devices = Vec::new(alloc);
-    for _ in 0..2u32 {
-        devices.push(GateDevice::new(clients))?;
-    }
-    Ok(devices)
 }
 
 /// How many accepts were made, and how many of these gave nobody.
@@ -105,11 +77,15 @@ fn counts_of<R: Drop, D: Drop>(served: Result<Served<R, D>, ServeFault>) -> Opti
 }
 
 /// Serves the clients by two workers and four accepts.
-fn counts<T: Threads + Wait + Sync>(
+fn counts<G: Gate + Acceptor + Copy + Drop + Send + Sync, T: Threads + Wait + Sync>(
     rt: HostRuntime,
     threads: &T,
-    clients: &Clients<'_>,
-) -> Option<(u32, u32)> {
+    clients: G,
+) -> Option<(u32, u32)>
+where
+    G::In: Send,
+    G::Out: Send,
+{
     let limits = Limits::checked(16, 2, 4, 4, 100, 64).ok()?;
     let acceptor = OneAtATime {
         rt,
@@ -117,14 +93,15 @@ fn counts<T: Threads + Wait + Sync>(
         there: AtomicU64::new(0),
         failed: AtomicU64::new(0),
     };
-    let devices = devices(rt.alloc(), clients).ok()?;
+    let devices = devices(rt.alloc(), clients, limits.sessions).ok()?;
     let blank = Blank::new(rt.alloc()).ok()?;
-    counts_of(serve_over::<_, _, Brand, T>(
+    let giver = &acceptor;
+    counts_of(serve_over::<&OneAtATime<G>, GateDevice<G>, Brand, T>(
         threads,
         rt.alloc(),
         limits,
         4,
-        &&acceptor,
+        &giver,
         devices,
         blank,
     ))

@@ -63,7 +63,7 @@ where
 }
 
 /// A device for each session.
-fn devices<G: Gate + Copy + Drop>(
+pub(super) fn devices<G: Gate + Copy + Drop>(
     alloc: Global,
     gate: G,
     sessions: u32,
