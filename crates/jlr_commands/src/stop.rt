@@ -24,23 +24,28 @@ pub fn stop(rt: &HostRuntime, control: &str) -> Result<(), ProgramFault> {
             return Err(ProgramFault::CannotConnect(place));
         }
     };
-    if (&stream).write_all(&[END]).is_err() {
-        return Err(ProgramFault::NotEnded);
-    }
-    let mut word = [0u8; 1];
-    let mut has_ended = false;
-    for _ in 0..MOST_READS {
-        match (&stream).read(&mut word) {
-            Ok(0) => break,
-            Ok(_) => has_ended = word[0] == ENDED,
-            Err(error) if error.kind() == ErrorKind::Interrupted => {}
-            Err(_) => return Err(ProgramFault::NotEnded),
-        }
-    }
-    if has_ended {
+    // A server that ends already may be gone before it takes the byte. What it said counts.
+    let _ = (&stream).write_all(&[END]);
+    if says_ended(&stream) {
         return Ok(());
     }
     Err(ProgramFault::NotEnded)
+}
+
+/// Whether a server says, before it goes, that it ended in order. One that goes before it has read what it was asked
+/// resets the connection behind that.
+fn says_ended(stream: &UnixStream) -> bool {
+    let mut word = [0u8; 1];
+    let mut has_ended = false;
+    for _ in 0..MOST_READS {
+        match (&mut &*stream).read(&mut word) {
+            Ok(0) => break,
+            Ok(_) => has_ended = word[0] == ENDED,
+            Err(error) if error.kind() == ErrorKind::Interrupted => {}
+            Err(_) => break,
+        }
+    }
+    has_ended
 }
 
 /// More reads than an end takes: a byte and the end of the stream, and some that a signal interrupts.
