@@ -253,6 +253,19 @@ def a_look_is_no_stop(program, asked):
     check(server.end() == ENDED, "an end in order")
 
 
+def stops_beside_each_other(program, asked):
+    """Whoever asks is told of the end, or finds nobody there any more."""
+    for _ in range(asked.stops):
+        server = Server(program, 9, 1)
+        words = [program, "stop", server.control]
+        both = [subprocess.Popen(words, stderr=subprocess.PIPE) for _ in range(2)]
+        for process in both:
+            lines = process.communicate(timeout=TIMEOUT)[1].splitlines()
+            gone = lines[:1] == [b"refheap: cannot connect to " + server.control.encode()]
+            check(process.returncode == 0 or gone, f"a stop beside another: {lines}")
+        check(server.end() == ENDED, "an end in order")
+
+
 def a_deleted_socket_of_control(program, asked):
     server = Server(program, 1, 1)
     os.remove(server.control)
@@ -335,7 +348,7 @@ def main():
     for case in (a_death_goes_to_the_next, gone_clients_brick_nothing, a_half_closed_client_is_answered, what_a_client_left_is_closed,
                  a_stop_answers_what_is_owed, a_second_stop_cuts, a_stop_without_a_server, a_stop_whose_save_fails,
                  a_stop_without_a_word, a_look_is_no_stop, a_deleted_socket_of_control,
-                 stops_at_any_moment, files_of_sockets):
+                 stops_beside_each_other, stops_at_any_moment, files_of_sockets):
         try:
             case(program, asked)
         except (AssertionError, OSError, subprocess.SubprocessError) as error:
