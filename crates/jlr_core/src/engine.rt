@@ -160,7 +160,11 @@ impl<R> Core<R> {
     pub fn will_collect(&self, ask: &Ask) -> bool
         ensures { result ≡ may_collect self.now.machine (Some ask.now) }
     {
-        queries::will_collect(&self.state, ask)
+        match ask {
+            Ask::Full { .. } => true,
+            Ask::Collect => self.state.cycle_open,
+            _ => queries::lacks_room(&self.state, ask),
+        }
     }
 
     /// Whether a `Remove` of a mutator on a queue would be refused `WouldWait`.
@@ -174,14 +178,14 @@ impl<R> Core<R> {
     pub fn pending_empty(&self) -> bool
         ensures { IsTrue result ↔ (self.now.machine.pending ≡ []) }
     {
-        queries::pending_empty(&self.state)
+        self.state.heap.first_pending().is_none()
     }
 
     /// Whether nothing stands in the cleaner's line, so that the cleaner would find nothing to take up.
     pub fn line_empty(&self) -> bool
         ensures { IsTrue result ↔ (self.now.machine.line ≡ []) }
     {
-        queries::line_empty(&self.state)
+        self.state.heap.first_lined().is_none()
     }
 
     /// Whether a cycle is open.

@@ -1,10 +1,8 @@
-//! What a caller may look at before it asks: whether an ask may collect, or would wait, and whether anything is left to
-//! the helpers.
-ghost use Rattle.std.specs.Prelude.{◌≡◌, ◌↔◌, IsTrue, Some, [], not};
+//! What a caller may look at before it asks: whether an ask lacks room, or would wait.
+ghost use Rattle.std.specs.Prelude.{◌≡◌, ◌↔◌, IsTrue, Some, not};
 ghost use Rattle.jlr_machine.specs.Refusals.{refusal};
 ghost use Rattle.jlr_machine.specs.Run.{has_room};
 ghost use Rattle.jlr_machine.specs.WellFormed.{IsWellFormed};
-ghost use Rattle.jlr_histories.specs.Collecting.{may_collect};
 ghost use Rattle.jlr_state.specs.Looks.{cells_for};
 ghost use Rattle.jlr_state.specs.Machines.{machine_of};
 
@@ -13,22 +11,11 @@ use jlr_machine::ask::Ask;
 use jlr_state::state::State;
 use jlr_types::{Handle, Mutator, Refusal};
 
-/// Whether an ask may come with a collection, whatever it is refused by.
-pub(crate) fn will_collect<R>(state: &State<R>, ask: &Ask) -> bool
-    ensures { result ≡ may_collect (machine_of state.now) (Some ask.now) }
+/// Whether fewer cells are free than the objects of an ask take.
+pub(crate) fn lacks_room<R>(state: &State<R>, ask: &Ask) -> bool
+    ensures { result ≡ not (has_room (machine_of state.now) (cells_for (Some ask.now))) }
 {
-    match ask {
-        Ask::Full { .. } => true,
-        Ask::Collect => state.cycle_open,
-        _ => lacks_room(state, cells_for(ask)),
-    }
-}
-
-/// Whether fewer cells are free.
-fn lacks_room<R>(state: &State<R>, cells: u32) -> bool
-    ensures { result ≡ not (has_room (machine_of state.now) cells) }
-{
-    state.heap.vacant_count() < cells
+    state.heap.vacant_count() < cells_for(ask)
 }
 
 /// Whether a `Remove` would be refused because its queue is empty, and nothing that comes before it in the order of
@@ -41,20 +28,6 @@ pub(crate) fn would_wait<R>(state: &State<R>, by: Mutator, queue: Handle) -> boo
         Ok(_) => false,
         Err(refusal) => refusal == Refusal::WouldWait,
     }
-}
-
-/// Whether nothing is pending.
-pub(crate) fn pending_empty<R>(state: &State<R>) -> bool
-    ensures { IsTrue result ↔ ((machine_of state.now).pending ≡ []) }
-{
-    state.heap.first_pending().is_none()
-}
-
-/// Whether nothing stands in the cleaner's line.
-pub(crate) fn line_empty<R>(state: &State<R>) -> bool
-    ensures { IsTrue result ↔ ((machine_of state.now).line ≡ []) }
-{
-    state.heap.first_lined().is_none()
 }
 
 /// How many cells the objects of an ask take.
