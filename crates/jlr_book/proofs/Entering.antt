@@ -1,5 +1,6 @@
 -- An entry more, an end that is refused, and an open cycle that is given up.
-use Rattle.std.proofs.Common.{◌≡◌, ℕ, ◌+◌, ◌≤◌, Bool, true, false, is_some, not, IsTrue, List, [], ◌∷◌, ◌++◌, length, Option, Some}
+use Rattle.std.proofs.Common.{◌≡◌, ◌⊎◌, inl, inr, ℕ, ◌+◌, ◌≤◌, Bool, true, false, not, IsTrue, List, [], ◌∷◌, ◌++◌, length, map}
+use Rattle.std.proofs.Common.{Option, Some}
 use Rattle.std.proofs.Common.{None, refl, sym, ◌∙◌, ap, subst, arith, option_to_list, append-nil}
 use Rattle.std.proofs.lemmas.Bool.{both_ways}
 use Rattle.jlr_types.specs.declared.Progress.{Progress}
@@ -13,8 +14,6 @@ use Rattle.jlr_machine.specs.declared.ask.Answer.TheVariants.{Refused, Truth}
 use Rattle.jlr_machine.specs.Chosen.{Chosen}
 use Rattle.jlr_machine.specs.declared.entry.Collected.{Collected}
 use Rattle.jlr_machine.specs.declared.entry.Entry.{Entry}
-use Rattle.jlr_machine.specs.declared.ask.CallOutcome.TheVariants.{Data as GotData, Wrote as GotWrote, Failed as GotFailed}
-use Rattle.jlr_machine.specs.Data.{Brings}
 use Rattle.jlr_machine.specs.Refusals.{is_end, cells_needed}
 use Rattle.jlr_machine.specs.Run.{Run, IsLegal, MayCollect, Answers, has_room, no_choice, with_collection, now_seen, apply}
 use Rattle.jlr_machine.specs.Run.IsLegal.{carried_out, refused, heap_full, out_of_memory}
@@ -27,9 +26,7 @@ use Rattle.jlr_laws.proofs.Seats.{legality_looks_at_no_seat}
 use Rattle.jlr_laws.proofs.UpToDate.{seen_stays_up_to_date}
 use Rattle.jlr_histories.specs.Collecting.{may_collect}
 use Rattle.jlr_histories.specs.Owing.{owed}
-use Rattle.jlr_histories.specs.Rooms.{Rooms, FitsRooms, HasRoomFor}
 use Rattle.jlr_histories.proofs.Collecting.{no_collection_unless_it_may}
-use Rattle.jlr_histories.proofs.Fitting.{answers_fit}
 use Rattle.jlr_histories.proofs.Owing.{end_collects, end_lowers}
 use Rattle.jlr_event.specs.declared.event.Event.{Event}
 use Rattle.jlr_event.specs.declared.event.Event.TheVariants as event
@@ -37,17 +34,19 @@ use Rattle.jlr_event.specs.declared.event.Reply.{Reply}
 use Rattle.jlr_event.specs.declared.event.Reply.TheVariants.{Answered, Marked}
 use Rattle.jlr_event.specs.Asks.{hands_in}
 use Rattle.jlr_event.specs.Events.{ask_of, answer_in}
+use Rattle.jlr_plain.specs.declared.record.Record.{Record}
+use Rattle.jlr_plain.specs.Records.{record_of, replayed}
+use Rattle.jlr_plain.proofs.Records.{one_more}
 use Rattle.jlr_core.specs.Cores.{Kept, StandsIn}
 use Rattle.jlr_core.specs.Events.{EntersLegally, carries_none, GoesOut, entry_of}
-use Rattle.jlr_core.specs.Steps.{IsStep}
+use Rattle.jlr_core.specs.Steps.{IsStep, Steps}
 use Rattle.jlr_book.specs.Histories.{LeadsToCore, seated}
-use Rattle.jlr_book.specs.Lists.{fits_fast_path}
-use Rattle.jlr_book.specs.Making.{SuitsChoice, SuitsEntry}
-use Rattle.jlr_book.specs.Writing.{Refuses, Stands, WritesEntry}
+use Rattle.jlr_book.specs.Kinds.{fits_fast_path}
+use Rattle.jlr_book.specs.Making.{SuitsChoice}
+use Rattle.jlr_book.specs.Writing.{AddsEnd, AddsNone, AddsRecord, Stands}
 use Rattle.jlr_machine.specs.Refusals.{is_refusal}
 use Rattle.jlr_book.specs.declared.room.ChoiceRoom.{ChoiceRoom}
 use Rattle.jlr_book.specs.declared.room.ChoiceRoom.TheVariants.{Collecting, Plain}
-use Rattle.jlr_book.specs.declared.room.EntryRoom.{EntryRoom}
 
 -- ---- Entries
 
@@ -197,49 +196,21 @@ refused_stays image entries h k e reply chosen asked by s is end was ends =
     ∙ ap {A = List ℕ} {B = Machine} (λ l. record m { seen = l }) (sym ends.4) in
     (m, ends.1, subst (StandsIn k) (enters.1 ∙ same) x.2, ends.3, ends.4)
 
--- ---- Lists
+-- ---- Answers
 
--- what a core answers fits the room that was made for it
-pub list_fits : {R : Type 0} (h k : Kept R) (e : Event R) (answer : Answer) (resource : Option R) (chosen : Chosen) (asked : Ask)
-    (room : Rooms) → IsStep h e (Answered answer resource) chosen k
-    → ask_of e ≡ Some asked → Stands h → HasRoomFor asked room → FitsRooms room answer
-list_fits h k e answer resource chosen asked room s is st r =
-    let x = as_entered h k e answer resource chosen asked s is st in
-    answers_fit st.0 (entry_of asked answer chosen) room st.2 x.1.0 r
+-- an ask is answered
+pub answered : {R : Type 0} (h k : Kept R) (e : Event R) (reply : Reply R) (chosen : Chosen) (asked : Ask)
+    → IsStep h e reply chosen k → ask_of e ≡ Some asked → Stands h → (answer : Answer) × (answer_in reply ≡ Some answer)
+answered h k e (Answered answer resource) chosen asked s is st = (answer, refl)
+answered h k e (Marked progress) chosen asked s is st = absurd (not_marked h k e progress chosen asked s is st)
 
--- an ask is answered, and the answer fits the room that was made for it
-pub answered : {R : Type 0} (h k : Kept R) (e : Event R) (reply : Reply R) (chosen : Chosen) (asked : Ask) (room : Rooms)
-    → IsStep h e reply chosen k
-    → ask_of e ≡ Some asked → Stands h → HasRoomFor asked room → (answer : Answer) × (answer_in reply ≡ Some answer) × FitsRooms room answer
-answered h k e (Answered answer resource) chosen asked room s is st r =
-    (answer, refl, list_fits h k e answer resource chosen asked room s is st r)
-answered h k e (Marked progress) chosen asked room s is st r = absurd (not_marked h k e progress chosen asked s is st)
-
--- an end asks for no list, and room for what a call read was brought
-pub end_has_room : {X : Type 0} (asked : Ask) (brought : Option X) (room : Rooms) → is_end asked ≡ true → Brings brought (Some asked)
-    → (is_some brought ≡ true → 1 ≤ room.bytes) → HasRoomFor asked room
-end_has_room (ask.Leave k) brought room is brings holds = tt
-end_has_room (ask.Opened k outcome) brought room is brings holds = tt
-end_has_room (ask.CheckIn k (GotData bytes)) brought room is brings holds = holds brings
-end_has_room (ask.CheckIn k (GotWrote n)) brought room is brings holds = tt
-end_has_room (ask.CheckIn k (GotFailed fault)) brought room is brings holds = tt
-end_has_room (ask.Finish by action outcome) brought room is brings holds = tt
-end_has_room a brought room is brings holds = absurd (both_ways false refl is)
-
--- an ask whose entry takes its place alone is no end, and needs no room
+-- an ask whose entry takes its place alone is no end
 pub brief_is_no_end : (asked : Ask) → fits_fast_path asked ≡ true → is_end asked ≡ false
 brief_is_no_end (ask.Leave k) is = absurd (both_ways false refl is)
 brief_is_no_end (ask.Opened k outcome) is = absurd (both_ways false refl is)
 brief_is_no_end (ask.CheckIn k outcome) is = absurd (both_ways false refl is)
 brief_is_no_end (ask.Finish by action outcome) is = absurd (both_ways false refl is)
 brief_is_no_end a is = refl
-
-pub brief_has_room : (asked : Ask) (room : Rooms) → fits_fast_path asked ≡ true → HasRoomFor asked room
-brief_has_room (ask.Names k) room is = absurd (both_ways false refl is)
-brief_has_room (ask.Notes k) room is = absurd (both_ways false refl is)
-brief_has_room (ask.Faults k) room is = absurd (both_ways false refl is)
-brief_has_room (ask.CheckIn k outcome) room is = absurd (both_ways false refl is)
-brief_has_room a room is = tt
 
 -- no file or socket goes in or out with it
 pub brief_carries_none : (asked : Ask) → fits_fast_path asked ≡ true → carries_none asked ≡ true
@@ -250,14 +221,6 @@ brief_carries_none (ask.CheckIn k outcome) is = absurd (both_ways false refl is)
 brief_carries_none (ask.Close k h) is = absurd (both_ways false refl is)
 brief_carries_none ask.TakeUp is = absurd (both_ways false refl is)
 brief_carries_none a is = refl
-
--- an end that hands in nothing needs no room
-pub asked_end_has_room : (asked : Ask) (room : Rooms) → hands_in asked ≡ false → is_end asked ≡ true → HasRoomFor asked room
-asked_end_has_room (ask.Leave k) room plain is = tt
-asked_end_has_room (ask.Finish by action outcome) room plain is = tt
-asked_end_has_room (ask.Opened k outcome) room plain is = absurd (both_ways true plain refl)
-asked_end_has_room (ask.CheckIn k outcome) room plain is = absurd (both_ways true plain refl)
-asked_end_has_room a room plain is = absurd (both_ways false refl is)
 
 -- ---- A cycle that is given up
 
@@ -315,35 +278,19 @@ stands_for_its_own h st shut =
     let date : IsUpToDate m = none ∙ sym (when_shut m was_shut) in
     subst (λ n. LeadsToCore n [] h) (sym same) (m, refl, st.1, st.2, date)
 
--- ---- What is written down
+-- ---- What is recorded
 
-pub writes : {R : Type 0} (h k : Kept R) (e : Event R) (answer noted : Answer) (resource : Option R) (asked : Ask) (chosen : Chosen)
-    (entries entries' : List Entry) (seat : ℕ)
-    → IsStep h e (Answered answer resource) chosen k → ask_of e ≡ Some asked → entries' ≡ entries ++ entry_by seat asked noted chosen ∷ []
-    → noted ≡ answer
-    → WritesEntry seat h entries e (Answered answer resource) k entries'
-writes h k e answer noted resource asked chosen entries entries' seat s is more same_answer =
-    let same : entry_by seat asked noted chosen ≡ entry_by seat asked answer chosen =
-    ap {A = Answer} {B = Entry} (λ a. entry_by seat asked a chosen) same_answer in
-    record {
-      chosen = chosen;
-      step = s;
-      adds = subst (λ o. entries' ≡ entries ++ option_to_list (seated seat o (Some answer) chosen)) (sym is)
-          (more ∙ ap {A = Entry} {B = List Entry} (λ x. entries ++ x ∷ []) same);
-    }
-
--- the same where the answer that was noted is known to be the reply's
-pub writes_noted : {R : Type 0} (h k : Kept R) (e : Event R) (reply : Reply R) (noted : Answer) (asked : Ask) (chosen : Chosen)
-    (entries entries' : List Entry) (seat : ℕ)
-    → IsStep h e reply chosen k → ask_of e ≡ Some asked → answer_in reply ≡ Some noted → entries' ≡ entries
-    ++ entry_by seat asked noted chosen ∷ []
-    → WritesEntry seat h entries e reply k entries'
-writes_noted h k e reply noted asked chosen entries entries' seat s is said more = record {
+pub adds_record : {R : Type 0} (h k : Kept R) (e : Event R) (reply : Reply R) (answer : Answer) (asked : Ask) (chosen : Chosen)
+    (records records' : List Record) (seat : ℕ)
+    → IsStep h e reply chosen k → ask_of e ≡ Some asked → answer_in reply ≡ Some answer
+    → records' ≡ records ++ record_of (entry_by seat asked answer chosen) ∷ []
+    → AddsRecord seat h records e reply k records'
+adds_record h k e reply answer asked chosen records records' seat s is said more = record {
   chosen = chosen;
   step = s;
   adds =
-      subst (λ o. entries' ≡ entries ++ option_to_list (seated seat o (answer_in reply) chosen)) (sym is)
-      (subst (λ a. entries' ≡ entries ++ option_to_list (seated seat (Some asked) a chosen)) (sym said) more);
+      subst (λ o. records' ≡ records ++ map record_of (option_to_list (seated seat o (answer_in reply) chosen))) (sym is)
+      (subst (λ a. records' ≡ records ++ map record_of (option_to_list (seated seat (Some asked) a chosen))) (sym said) more);
 }
 
 -- an end that is answered chose nothing
@@ -382,13 +329,83 @@ suits_closed m ask (Collecting choice) x = x
 suits_closed m ask Plain x = closed_collects m ask x
 
 -- room that was made before a cut serves after it
-pub still_suits : (m n : Machine) (ask : Ask) (room : EntryRoom) → n ≡ closed m → SuitsEntry m ask room → SuitsEntry n ask room
-still_suits m n ask room same x =
-    subst (λ k. SuitsEntry k ask room) (sym same) (record { answer = x.answer; choice = suits_closed m (Some ask) room.choice x.choice })
+pub still_suits : (m n : Machine) (ask : Option Ask) (room : ChoiceRoom) → n ≡ closed m → SuitsChoice m ask room → SuitsChoice n ask room
+still_suits m n ask room same x = subst (λ k. SuitsChoice k ask room) (sym same) (suits_closed m ask room x)
 
 -- ---- An end that the core refuses
 
-pub turned_away : {R : Type 0} (h k : Kept R) (e : Event R) (answer : Answer) (resource : Option R) (chosen : Chosen) (entries : List Entry)
-    → IsStep h e (Answered answer resource) chosen k → is_refusal answer ≡ true → Refuses h entries e (Answered answer resource) k entries
-turned_away h k e (Refused by) resource chosen entries s is = record { steps = (chosen, s); by = by; refused = refl; stays = refl }
-turned_away h k e answer resource chosen entries s is = absurd (both_ways false refl is)
+pub turned_away : {R : Type 0} (h k : Kept R) (e : Event R) (answer : Answer) (resource : Option R) (chosen : Chosen)
+    (records : List Record)
+    → IsStep h e (Answered answer resource) chosen k → is_refusal answer ≡ true
+    → AddsNone h records e (Answered answer resource) k records
+turned_away h k e (Refused by) resource chosen records s is = record { steps = (chosen, s); by = by; refused = refl; stays = refl }
+turned_away h k e answer resource chosen records s is = absurd (both_ways false refl is)
+
+-- ---- The entries of what is recorded
+
+-- an entry more, or none
+replayed_more : (image m n : Machine) (records : List Record) (seat : ℕ) (ask : Option Ask) (answer : Option Answer) (chosen : Chosen)
+    → Run image (replayed image records) m → EntersLegally m ask answer chosen n
+    → replayed image (records ++ map record_of (option_to_list (seated seat ask answer chosen)))
+    ≡ replayed image records ++ option_to_list (seated seat ask answer chosen)
+replayed_more image m n records seat (Some ask) (Some answer) chosen r e =
+    one_more image m records (entry_by seat ask answer chosen) r (legality_looks_at_no_seat m (entry_of ask answer chosen) seat e.0)
+replayed_more image m n records seat (Some ask) None chosen r e = absurd e
+replayed_more image m n records seat None (Some answer) chosen r e = absurd e
+replayed_more image m n records seat None None chosen r e =
+    ap {A = List Record} {B = List Entry} (replayed image) (append-nil records) ∙ sym (append-nil (replayed image records))
+
+-- a step of the core, and its entry behind the others
+pub record WritesEntry {R : Type 0} (seat : ℕ) (old : Kept R) (entries : List Entry) (event : Event R) (reply : Reply R)
+    (new : Kept R) (entries' : List Entry) : Type 0 where
+  pub chosen : Chosen
+  pub step : IsStep old event reply chosen new
+  pub adds : entries' ≡ entries ++ option_to_list (seated seat (ask_of event) (answer_in reply) chosen)
+
+-- a step of the core that refused an end, and no entry
+pub record Refuses {R : Type 0} (old : Kept R) (entries : List Entry) (event : Event R) (reply : Reply R) (new : Kept R)
+    (entries' : List Entry) : Type 0 where
+  pub steps : Steps old event reply new
+  pub by : Refusal
+  pub refused : answer_in reply ≡ Some (Refused by)
+  pub stays : entries' ≡ entries
+
+-- an end: one of the two, as its answer says
+abbrev pub WritesEnd : {R : Type 0} → ℕ → Kept R → List Entry → Event R → Reply R → Kept R → List Entry → Type 0
+WritesEnd seat old entries event reply new entries' =
+    (WritesEntry seat old entries event reply new entries' × ((by : Refusal) → answer_in reply ≡ Some (Refused by) → ⊥))
+    ⊎ Refuses old entries event reply new entries'
+
+-- records since an image, of which the first led to a core
+module _ {R : Type 0} (image : Machine) (records records' : List Record) (h k : Kept R) (seat : ℕ) (e : Event R) (reply : Reply R)
+    (ends : LeadsToCore image (replayed image records) h) where
+  pub entry_more : AddsRecord seat h records e reply k records'
+      → WritesEntry seat h (replayed image records) e reply k (replayed image records')
+  entry_more a =
+      let x = a.step.entry ends.0 ends.2 in
+      record {
+        chosen = a.chosen;
+        step = a.step;
+        adds = ap {A = List Record} {B = List Entry} (replayed image) a.adds
+            ∙ replayed_more image ends.0 x.0 records seat (ask_of e) (answer_in reply) a.chosen ends.1 x.1;
+      }
+
+  -- the record of a step that is answered
+  pub entry_recorded : (answer : Answer) (asked : Ask) (chosen noted : Chosen) (r : Record) → IsStep h e reply chosen k
+      → noted ≡ chosen → ask_of e ≡ Some asked → answer_in reply ≡ Some answer → r ≡ record_of (entry_by seat asked answer noted)
+      → records' ≡ records ++ r ∷ []
+      → WritesEntry seat h (replayed image records) e reply k (replayed image records')
+  entry_recorded answer asked chosen noted r s same is said kept more =
+      entry_more (adds_record h k e reply answer asked noted records records' seat
+      (subst (λ (c : Chosen). IsStep h e reply c k) (sym same) s) is said
+      (more ∙ ap {A = Record} {B = List Record} (λ x. records ++ x ∷ []) kept))
+
+  pub end_more : AddsEnd seat h records e reply k records'
+      → WritesEnd seat h (replayed image records) e reply k (replayed image records')
+  end_more (inl a) = inl (entry_more a.0, a.1)
+  end_more (inr r) = inr (record {
+    steps = r.steps;
+    by = r.by;
+    refused = r.refused;
+    stays = ap {A = List Record} {B = List Entry} (replayed image) r.stays;
+  })

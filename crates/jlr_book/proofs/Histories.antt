@@ -26,8 +26,9 @@ use Rattle.jlr_book.proofs.Limits.{runs_keep_the_limits}
 use Rattle.jlr_core.proofs.Ranges.{limits_hold}
 use Rattle.jlr_core.proofs.RunLaws.{stands_at_start, start_cells}
 use Rattle.jlr_book.specs.Rules.{AsksBy, BookSteps, Cuts, EndsBy, Enters, GivesUp, Readies, StepsBy}
-use Rattle.jlr_book.specs.Writing.{Stands, WritesEntry, WritesEnd}
-use Rattle.jlr_book.proofs.Entering.{closed, ends_more, owed_less_by, refused_stays, stands_for_its_own, stands_there}
+use Rattle.jlr_book.specs.Writing.{Stands}
+use Rattle.jlr_book.proofs.Entering.{WritesEnd, WritesEntry, closed, ends_more, owed_less_by, refused_stays, stands_for_its_own}
+use Rattle.jlr_book.proofs.Entering.{stands_there}
 
 abbrev pub told : {R : Type 0} → Limits → ℕ → Machine → List Entry → Kept R → History R
 told limits base image entries core = record { limits = limits; base = base; image = image; entries = entries; core = core }
@@ -39,7 +40,7 @@ owes_few core st =
     let same : owed core.machine ≡ owed st.0 = ap {A = Machine} {B = ℕ} owed st.1.same in
     omega (arith, few, same)
 
-bit_small : (b : Bool) → cond b 1 0 ≤ 1
+pub bit_small : (b : Bool) → cond b 1 0 ≤ 1
 bit_small true = omega arith
 bit_small false = omega arith
 

@@ -7,7 +7,8 @@ use Rattle.jlr_types.specs.declared.limits.LimitFault.{LimitFault}
 use Rattle.jlr_types.specs.declared.limits.LimitFault.TheVariants.{Cells, Sessions}
 use Rattle.jlr_types.specs.Ranges.{is_within}
 use Rattle.jlr_machine.specs.declared.machine.Machine.{Machine}
-use Rattle.jlr_machine.specs.declared.entry.Entry.{Entry}
+use Rattle.jlr_plain.specs.declared.record.Record.{Record}
+use Rattle.jlr_plain.specs.Records.{replayed}
 use Rattle.jlr_machine.specs.Run.{Run, empty}
 use Rattle.jlr_laws.proofs.Empty.{empty_is_well_formed}
 use Rattle.jlr_laws.proofs.Frames.{no_some}
@@ -53,18 +54,20 @@ kept_is : (limits : Limits) (kept : Option Machine) → LeadsOn (kept_from limit
 kept_is limits None h = refl
 kept_is limits (Some n) h = shut_is_closed n h.machine h.same
 
-led_from : (x image m : Machine) (entries : List Entry) → image ≡ shut x → Run image entries m → led (shut x) entries ≡ unseen m
-led_from x image m entries is run = led_by_run (shut x) m entries (subst (λ (y : Machine). Run y entries m) is run)
+led_from : (x image m : Machine) (records : List Record) → image ≡ shut x → Run image (replayed image records) m
+    → led (shut x) records ≡ unseen m
+led_from x image m records is run =
+    led_by_run (shut x) m records (subst (λ (y : Machine). Run y (replayed y records) m) is run)
 
-pub takes_over : (limits : Limits) (kept : Option Machine) (image m : Machine) (rest entries : List Entry)
-    → LeadsOn (kept_from limits kept) rest → rest ≡ [] → image_from limits kept rest ≡ image → Run image entries m
-    → image_from limits (option_map with_cycle_closed kept) entries ≡ shut m
-takes_over limits kept image m rest entries leads none is run =
+pub takes_over : (limits : Limits) (kept : Option Machine) (image m : Machine) (rest records : List Record)
+    → LeadsOn (kept_from limits kept) rest → rest ≡ [] → image_from limits kept rest ≡ image
+    → Run image (replayed image records) m → image_from limits (option_map with_cycle_closed kept) records ≡ shut m
+takes_over limits kept image m rest records leads none is run =
     let here = subst (LeadsOn (kept_from limits kept)) none leads in
     let shut_here : image ≡ shut (kept_from limits kept) = sym is
-    ∙ ap {A = List Entry} {B = Machine} (λ l. image_from limits kept l) none in
-    ap {A = Machine} {B = Machine} (λ x. shut (led x entries)) (kept_is limits kept here)
-    ∙ ap {A = Machine} {B = Machine} shut (led_from (kept_from limits kept) image m entries shut_here run)
+    ∙ ap {A = List Record} {B = Machine} (λ l. image_from limits kept l) none in
+    ap {A = Machine} {B = Machine} (λ x. shut (led x records)) (kept_is limits kept here)
+    ∙ ap {A = Machine} {B = Machine} shut (led_from (kept_from limits kept) image m records shut_here run)
 
 -- ---- Once the empty machine is made
 

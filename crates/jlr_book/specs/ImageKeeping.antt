@@ -5,7 +5,7 @@ use Rattle.std.specs.Vec.{vec_len}
 use Rattle.jlr_types.specs.declared.limits.Limits.{Limits}
 use Rattle.jlr_machine.specs.declared.object.Object.{Object}
 use Rattle.jlr_machine.specs.declared.machine.Machine.{Machine}
-use Rattle.jlr_machine.specs.declared.entry.Entry.{Entry}
+use Rattle.jlr_plain.specs.declared.record.Record.{Record}
 use Rattle.jlr_machine.specs.Run.{empty}
 use Rattle.jlr_book.specs.Led.{led, shut, LeadsOn}
 
@@ -14,8 +14,8 @@ abbrev pub kept_from : Limits → Option Machine → Machine
 kept_from limits None = empty limits.cells limits.sessions limits.resources
 kept_from limits (Some m) = m
 
--- the machine to which the entries lead that are not followed yet
-abbrev pub image_from : Limits → Option Machine → List Entry → Machine
+-- the machine to which the records lead that are not followed yet
+abbrev pub image_from : Limits → Option Machine → List Record → Machine
 image_from limits kept rest = shut (led (kept_from limits kept) rest)
 
 -- cells, at most so many, with nothing in them
@@ -23,8 +23,8 @@ pub record AreEmptyCells (cells : Vec (Option Object)) (limit : ℕ) : Type 0 wh
   pub nothing : cells.items ≡ replicate (vec_len cells) None
   pub few : vec_len cells ≤ limit
 
-pub record KeepsImage (limits : Limits) (kept : Option Machine) (cells : Vec (Option Object)) (entries : Vec Entry)
+pub record KeepsImage (limits : Limits) (kept : Option Machine) (cells : Vec (Option Object)) (records : Vec Record)
     (place : ℕ) : Type 0 where
-  pub leads : LeadsOn (kept_from limits kept) (drop place entries.items)
+  pub leads : LeadsOn (kept_from limits kept) (drop place records.items)
   pub free : AreEmptyCells cells limits.cells
-  pub within : place ≤ vec_len entries
+  pub within : place ≤ vec_len records

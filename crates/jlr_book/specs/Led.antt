@@ -1,9 +1,10 @@
--- Where entries lead, without what was seen.
+-- Where the records of entries lead, without what was seen.
 use Rattle.std.specs.Prelude.{◌≡◌, false, List, [], ◌∷◌}
 use Rattle.jlr_machine.specs.declared.machine.Machine.{Machine}
-use Rattle.jlr_machine.specs.declared.entry.Entry.{Entry}
 use Rattle.jlr_machine.specs.Run.{Run, apply}
 use Rattle.jlr_machine.specs.WellFormed.{IsWellFormed}
+use Rattle.jlr_plain.specs.declared.record.Record.{Record}
+use Rattle.jlr_plain.specs.Records.{entry_in, replayed}
 use Rattle.jlr_plain.specs.Unseen.{unseen}
 
 -- the machine with no cycle open, and nothing seen
@@ -14,15 +15,15 @@ shut m = record m { cycle_open = false; seen = [] }
 abbrev pub with_cycle_closed : Machine → Machine
 with_cycle_closed m = record m { cycle_open = false }
 
--- the machine to which entries lead
-abbrev pub led : Machine → List Entry → Machine
+-- the machine to which the entries of records lead
+abbrev pub led : Machine → List Record → Machine
 led m [] = m
-led m (e ∷ entries) = led (unseen (apply m e)) entries
+led m (r ∷ records) = led (unseen (apply m (entry_in m r))) records
 
--- the entries are a run from a well-formed machine, which is this one but for what was seen
-pub record LeadsOn (n : Machine) (entries : List Entry) : Type 0 where
+-- their entries are a run from a well-formed machine, which is this one but for what was seen
+pub record LeadsOn (n : Machine) (records : List Record) : Type 0 where
   pub machine : Machine
   pub same : n ≡ unseen machine
   pub formed : IsWellFormed machine
   pub last : Machine
-  pub run : Run machine entries last
+  pub run : Run machine (replayed machine records) last

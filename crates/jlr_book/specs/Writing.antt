@@ -1,12 +1,13 @@
--- Steps of the core that are written down, without the rest of the book.
-use Rattle.std.specs.Prelude.{◌≡◌, ◌≢◌, ◌⊎◌, ℕ, ◌++◌, List, Some}
+-- Steps of the core whose entries are recorded, without the rest of the book.
+use Rattle.std.specs.Prelude.{◌≡◌, ◌≢◌, ◌⊎◌, ℕ, ◌++◌, List, map, Some}
 use Rattle.std.specs.Option.{option_to_list}
 use Rattle.jlr_types.specs.declared.Refusal.{Refusal}
 use Rattle.jlr_machine.specs.declared.machine.Machine.{Machine}
 use Rattle.jlr_machine.specs.declared.ask.Answer.TheVariants.{Refused}
 use Rattle.jlr_machine.specs.Chosen.{Chosen}
-use Rattle.jlr_machine.specs.declared.entry.Entry.{Entry}
 use Rattle.jlr_machine.specs.WellFormed.{IsWellFormed}
+use Rattle.jlr_plain.specs.declared.record.Record.{Record}
+use Rattle.jlr_plain.specs.Records.{record_of}
 use Rattle.jlr_event.specs.declared.event.Event.{Event}
 use Rattle.jlr_event.specs.declared.event.Reply.{Reply}
 use Rattle.jlr_event.specs.Events.{ask_of, answer_in}
@@ -18,26 +19,27 @@ use Rattle.jlr_book.specs.Histories.{History, seated}
 abbrev pub Stands : {R : Type 0} → Kept R → Type 0
 Stands core = (m : Machine) × StandsIn core m × IsWellFormed m
 
--- a step of the core, and its entry behind the others
-pub record WritesEntry {R : Type 0} (seat : ℕ) (old : Kept R) (entries : List Entry) (event : Event R) (reply : Reply R)
-    (new : Kept R) (entries' : List Entry) : Type 0 where
+-- a step of the core, and the record of its entry behind the others
+pub record AddsRecord {R : Type 0} (seat : ℕ) (old : Kept R) (records : List Record) (event : Event R)
+    (reply : Reply R) (new : Kept R) (records' : List Record) : Type 0 where
   pub chosen : Chosen
   pub step : IsStep old event reply chosen new
-  pub adds : entries' ≡ entries ++ option_to_list (seated seat (ask_of event) (answer_in reply) chosen)
+  pub adds : records' ≡ records
+      ++ map record_of (option_to_list (seated seat (ask_of event) (answer_in reply) chosen))
 
--- a step of the core that refused an end, and no entry
-pub record Refuses {R : Type 0} (old : Kept R) (entries : List Entry) (event : Event R) (reply : Reply R) (new : Kept R)
-    (entries' : List Entry) : Type 0 where
+-- a step of the core that refused an end, and no record
+pub record AddsNone {R : Type 0} (old : Kept R) (records : List Record) (event : Event R) (reply : Reply R)
+    (new : Kept R) (records' : List Record) : Type 0 where
   pub steps : Steps old event reply new
   pub by : Refusal
   pub refused : answer_in reply ≡ Some (Refused by)
-  pub stays : entries' ≡ entries
+  pub stays : records' ≡ records
 
 -- an end: one of the two, as its answer says
-abbrev pub WritesEnd : {R : Type 0} → ℕ → Kept R → List Entry → Event R → Reply R → Kept R → List Entry → Type 0
-WritesEnd seat old entries event reply new entries' =
-    (WritesEntry seat old entries event reply new entries' × ((by : Refusal) → answer_in reply ≢ Some (Refused by)))
-    ⊎ Refuses old entries event reply new entries'
+abbrev pub AddsEnd : {R : Type 0} → ℕ → Kept R → List Record → Event R → Reply R → Kept R → List Record → Type 0
+AddsEnd seat old records event reply new records' =
+    (AddsRecord seat old records event reply new records' × ((by : Refusal) → answer_in reply ≢ Some (Refused by)))
+    ⊎ AddsNone old records event reply new records'
 
 -- a piece of marking: a step of the core alone
 pub record Pieces {R : Type 0} (old : History R) (event : Event R) (reply : Reply R) (new : History R) : Type 0 where

@@ -6,8 +6,9 @@ ghost use Rattle.jlr_machine.specs.Refusals.{is_end, refusal};
 ghost use Rattle.jlr_event.specs.Asks.{hands_in};
 ghost use Rattle.jlr_event.specs.Events.{ask_of};
 ghost use Rattle.jlr_core.specs.Events.{handed_out, take_up_answered};
+ghost use Rattle.jlr_plain.specs.Records.{replayed};
 ghost use Rattle.jlr_book.specs.Due.{IsCycleDue};
-ghost use Rattle.jlr_book.specs.Lists.{hands_in_or_marks, fits_fast_path};
+ghost use Rattle.jlr_book.specs.Kinds.{hands_in_or_marks, fits_fast_path};
 ghost use Rattle.jlr_book.specs.Histories.{last, HasNumbers, IsHistory, IsNewBook};
 ghost use Rattle.jlr_book.specs.Rules.{AsksBy, BookSteps, Cuts, EndsBy, MarksBy};
 ghost use Rattle.jlr_book.specs.Writing.{Pieces};
@@ -18,15 +19,16 @@ use crate::entry::{
 };
 use crate::event::{decline, is_end};
 use crate::image::image::Image;
-use crate::room::{AnswerRoom, EntryRoom};
+use crate::room::ChoiceRoom;
 use jlr_cleaner::Job;
 use jlr_core::engine::Core;
 use jlr_event::event::{Event, Reply, ended};
 use jlr_machine::ask::{Answer, Ask, Handed, Outcome};
 use jlr_machine::choice::Choice;
 use jlr_machine::data::{CopyRoom, Data};
-use jlr_machine::entry::{Chosen, Entry};
+use jlr_machine::entry::Chosen;
 use jlr_machine::machine::Machine;
+use jlr_plain::record::Record;
 use jlr_types::{ActionNo, Handle, Limits, Mutator, Progress, Refusal};
 use std::alloc::{AllocError, Global};
 use std::marker::Model;
@@ -48,10 +50,12 @@ pub struct Book<R> {
     /// What a cut left, as far as it is followed.
     image: Image,
     base: u64,
-    trace: Vec<Entry>,
+    /// A record of each entry since.
+    trace: Vec<Record>,
 }
 
 impl<R> Model for Book<R> {
+    ghost use Rattle.jlr_plain.specs.Records.{replayed};
     ghost use Rattle.jlr_book.specs.Histories.{History};
     ghost use Rattle.jlr_book.specs.Keeping.{KeepsBook};
 
@@ -61,7 +65,7 @@ impl<R> Model for Book<R> {
       limits = b.limits;
       base = b.base;
       image = b.image;
-      entries = b.trace.items;
+      entries = replayed b.image b.trace.items;
       core = b.core;
     } };
 
@@ -133,9 +137,9 @@ impl<R: Drop> Book<R> {
         self.image.copy(self.alloc)
     }
 
-    /// The trace.
-    pub fn entries(&self) -> &[Entry]
-        ensures { result.now ≡ self.now.entries }
+    /// The trace: a record of each entry.
+    pub fn records(&self) -> &[Record]
+        ensures { replayed self.now.image result.now ≡ self.now.entries }
     {
         self.trace.as_slice()
     }
@@ -220,7 +224,6 @@ impl<R: Drop> Book<R> {
             let answer = record_in_place(
                 &mut self.core,
                 &mut self.choice,
-                self.alloc,
                 &mut self.trace,
                 seat,
                 ask,
@@ -253,11 +256,10 @@ impl<R: Drop> Book<R> {
         requires hands_in { hands_in_or_marks event ≡ true }
         ensures { BookSteps seat self.old event result self.new }
     {
-        let (ask_room, answer_room) = CopyRoom::split(room);
-        let Some(ask) = end_of(&event, ask_room) else {
+        let Some(ask) = end_of(&event, CopyRoom::into_data(room)) else {
             return self.mark_piece(event);
         };
-        self.end(seat, ask, answer_room, event)
+        self.end(seat, ask, event)
     }
 
     /// A piece of marking of at most so many cells, which is no entry. Takes no memory.
@@ -340,12 +342,8 @@ impl<R: Drop> Book<R> {
             return None;
         }
         let handed = self.core.hand_over();
-        self.trace.push_reserved(Entry {
-            seat,
-            ask: Ask::HandOver,
-            answer: Answer::Handed(handed),
-            choice: Chosen::nothing(),
-        });
+        let answer = Answer::Handed(handed);
+        self.trace.push_reserved(Record::new(seat, Ask::HandOver, &answer, Chosen::nothing()));
         Some(handed)
     }
 
@@ -373,12 +371,9 @@ impl<R: Drop> Book<R> {
             return None;
         }
         let taken = self.core.take_up();
-        self.trace.push_reserved(Entry {
-            seat,
-            ask: Ask::TakeUp,
-            answer: take_up_answer(&taken),
-            choice: Chosen::nothing(),
-        });
+        let answer = take_up_answer(&taken);
+        self.trace
+            .push_reserved(Record::new(seat, Ask::TakeUp, &answer, Chosen::nothing()));
         Some(taken)
     }
 
@@ -392,16 +387,13 @@ impl<R: Drop> Book<R> {
         if is_refused(&answer) {
             return;
         }
-        self.trace.push_reserved(Entry {
-            seat,
-            ask: Ask::Finish {
-                by,
-                action,
-                outcome,
-            },
-            answer,
-            choice: Chosen::nothing(),
-        });
+        let ask = Ask::Finish {
+            by,
+            action,
+            outcome,
+        };
+        self.trace
+            .push_reserved(Record::new(seat, ask, &answer, Chosen::nothing()));
     }
 
     /// A piece of marking, which is no entry.
@@ -420,29 +412,19 @@ impl<R: Drop> Book<R> {
         requires end { is_end ask ≡ true }
         ensures { EndsBy seat self.old (Event.Ask ask) result self.new }
     {
-        record_asked_end(
-            &mut self.core,
-            &mut self.choice,
-            self.alloc,
-            &mut self.trace,
-            seat,
-            ask,
-        )
+        record_asked_end(&mut self.core, &mut self.choice, &mut self.trace, seat, ask)
     }
 
     /// The end of an open or a call has its place and its number, or is refused by the core.
     #[inline(never)]
-    fn end(&mut self, seat: u8, ask: Ask, room: Option<Data>, event: Event<R>) -> Reply<R>
+    fn end(&mut self, seat: u8, ask: Ask, event: Event<R>) -> Reply<R>
         requires ask { ask_of event ≡ Some ask }
         requires end { is_end ask ≡ true }
-        requires room { Brings room (Some ask) }
         ensures { EndsBy seat self.old event result self.new }
     {
-        let room = AnswerRoom::for_bytes(self.alloc, room);
         record_end(
             &mut self.core,
             &mut self.choice,
-            room,
             &mut self.trace,
             seat,
             ask,
@@ -460,7 +442,7 @@ impl<R: Drop> Book<R> {
         if !self.has_numbers() {
             return decline(Refusal::Exhausted);
         }
-        let Ok(room) = EntryRoom::for_ask(self.alloc, &self.core, self.limits.cells, &ask) else {
+        let Ok(room) = ChoiceRoom::for_ask(self.alloc, &self.core, self.limits.cells, &ask) else {
             return decline(Refusal::NoMemory);
         };
         if self.trace.reserve(PLACES).is_err() {
@@ -501,7 +483,7 @@ impl<R: Drop> Book<R> {
 
 /// Whether a trace of at most so many entries has a place for one more, and for each end that may be owed then.
 #[inline(always)]
-fn has_reserved_places(trace: &Vec<Entry>, limit: u32) -> bool
+fn has_reserved_places(trace: &Vec<Record>, limit: u32) -> bool
     ensures { MatchBool result ((vec_len trace.now < limit) × (vec_len trace.now + 130 ≤ vec_capacity trace.now))
         ((limit ≤ vec_len trace.now) ⊎ (vec_capacity trace.now < vec_len trace.now + 130)) }
 {
@@ -509,13 +491,12 @@ fn has_reserved_places(trace: &Vec<Entry>, limit: u32) -> bool
 }
 
 /// Whether the entry of an ask needs no more than its place, unless it collects, and no resource goes in or out: it is
-/// no end, and asks for no list and no resource.
+/// no end, and asks for no resource.
 #[inline(always)]
 fn fits_fast_path(ask: &Ask) -> bool
     ensures { result ≡ fits_fast_path ask.now }
 {
     match ask {
-        Ask::Names { .. } | Ask::Notes { .. } | Ask::Faults { .. } => false,
         Ask::Leave { .. } | Ask::Opened { .. } | Ask::CheckIn { .. } | Ask::Finish { .. } => false,
         Ask::Clean { .. } | Ask::CheckOut { .. } | Ask::Close { .. } | Ask::TakeUp => false,
         _ => true,

@@ -3,6 +3,7 @@ ghost use Rattle.std.specs.Prelude.{◌≡◌, ◌≤◌, ◌<◌, ◌+◌, ◌^
 ghost use Rattle.std.specs.Prelude.{IfOk, OnOk, OnErr, vec_len, vec_capacity};
 ghost use Rattle.jlr_core.specs.Steps.{Steps};
 ghost use Rattle.jlr_machine.specs.WellFormed.{IsImage};
+ghost use Rattle.jlr_plain.specs.Records.{replayed};
 ghost use Rattle.jlr_book.specs.Histories.{LeadsToCore};
 ghost use Rattle.jlr_book.specs.Rules.{GivesUp};
 ghost use Rattle.jlr_book.specs.Writing.{Stands};
@@ -12,7 +13,7 @@ use jlr_core::engine::Core;
 use jlr_event::event::{Event, Reply};
 use jlr_machine::ask::{Answer, Ask};
 use jlr_machine::choice::Choice;
-use jlr_machine::entry::Entry;
+use jlr_plain::record::Record;
 use std::alloc::{AllocError, Global};
 
 /// Moves the image to the core's machine, with its cycle closed, and empties the trace: in a small heap by a copy, in a
@@ -23,11 +24,11 @@ use std::alloc::{AllocError, Global};
 fn move_image<R>(
     alloc: Global,
     core: &Core<R>,
-    trace: &mut Vec<Entry>,
+    trace: &mut Vec<Record>,
     image: &mut Image,
 ) -> Result<(), AllocError>
     requires image { IsImage image.old }
-    requires ends { LeadsToCore image.old trace.old.items core.now }
+    requires ends { LeadsToCore image.old (replayed image.old trace.old.items) core.now }
     ensures image { OnOk result (image.new ≡ record core.now.machine { cycle_open = false }) }
     ensures items { OnOk result (trace.new.items ≡ []) }
     ensures room { vec_capacity trace.old ≤ vec_capacity trace.new }
@@ -52,14 +53,14 @@ pub(crate) fn cut_to_image<R: Drop>(
     alloc: Global,
     core: &mut Core<R>,
     choice: &mut Choice,
-    trace: &mut Vec<Entry>,
+    trace: &mut Vec<Record>,
     image: &mut Image,
 ) -> Result<u64, AllocError>
     requires fits { vec_len trace.old + 1 < 2 ^ 64 }
     requires stands { Stands core.old }
     requires choice { length core.old.machine.objects ≤ choice.old.cells }
     requires image { IsImage image.old }
-    requires ends { LeadsToCore image.old trace.old.items core.old }
+    requires ends { LeadsToCore image.old (replayed image.old trace.old.items) core.old }
     ensures used { IfOk result (λ used. used ≡ vec_len trace.old + cond core.old.machine.cycle_open 1 0) }
     ensures image { OnOk result (image.new ≡ record core.old.machine { cycle_open = false }) }
     ensures gives_up { OnOk result (GivesUp core.old.machine.cycle_open core.old core.new) }

@@ -1,35 +1,35 @@
-//! One step of the core, and its entry behind the others.
+//! One step of the core, and the record of its entry behind the others.
 ghost use Rattle.std.specs.Prelude.{◌≡◌, ◌≤◌, ◌<◌, ◌+◌, true, false, length, vec_len, vec_capacity, None, Some};
 ghost use Rattle.jlr_machine.specs.Refusals.{is_end};
 ghost use Rattle.jlr_event.specs.Asks.{hands_in};
-ghost use Rattle.jlr_event.specs.Events.{ask_of};
+ghost use Rattle.jlr_machine.specs.declared.ask.Answer.{Answer as AnswerOf};
+ghost use Rattle.jlr_event.specs.Events.{answer_in, ask_of};
 ghost use Rattle.jlr_core.specs.Events.{take_up_answered};
 ghost use Rattle.jlr_histories.specs.Collecting.{may_collect};
 ghost use Rattle.jlr_histories.specs.Owing.{owed};
-ghost use Rattle.jlr_histories.specs.Rooms.{HasRoomFor};
 ghost use Rattle.jlr_core.specs.Steps.{IsStep};
-ghost use Rattle.jlr_book.specs.Lists.{fits_fast_path};
-ghost use Rattle.jlr_book.specs.Making.{SuitsEntry};
-ghost use Rattle.jlr_book.specs.Writing.{Stands, WritesEntry, WritesEnd};
+ghost use Rattle.jlr_book.specs.Kinds.{fits_fast_path};
+ghost use Rattle.jlr_book.specs.Making.{SuitsChoice};
+ghost use Rattle.jlr_book.specs.Writing.{AddsEnd, AddsRecord, Stands};
 ghost use Rattle.jlr_machine.specs.Refusals.{is_refusal};
 
-use crate::room::{AnswerRoom, ChoiceRoom, EntryRoom, copy_without_room};
+use crate::room::ChoiceRoom;
 use jlr_cleaner::Job;
 use jlr_core::engine::Core;
 use jlr_event::event::{Event, Reply};
 use jlr_machine::ask::{Answer, Ask, Handed};
 use jlr_machine::choice::Choice;
-use jlr_machine::entry::{Chosen, Entry};
+use jlr_machine::entry::Chosen;
+use jlr_plain::record::Record;
 use jlr_types::Refusal;
-use std::alloc::Global;
 
 /// An ask that is no end: one entry, in a place that is there. The core is lent the ask.
 #[inline(always)]
 pub(crate) fn record<R: Drop>(
     core: &mut Core<R>,
     choice: &mut Choice,
-    room: EntryRoom,
-    trace: &mut Vec<Entry>,
+    room: ChoiceRoom,
+    trace: &mut Vec<Record>,
     seat: u8,
     ask: Ask,
 ) -> Reply<R>
@@ -37,19 +37,15 @@ pub(crate) fn record<R: Drop>(
     requires place { vec_len trace.old < vec_capacity trace.old }
     requires stands { Stands core.old }
     requires choice { length core.old.machine.objects ≤ choice.old.cells }
-    requires room { SuitsEntry core.old.machine ask room }
-    ensures writes { WritesEntry seat core.old trace.old.items (Event.Ask ask) result core.new trace.new.items }
+    requires room { SuitsChoice core.old.machine (Some ask) room }
+    ensures writes { AddsRecord seat core.old trace.old.items (Event.Ask ask) result core.new trace.new.items }
     ensures cells { length core.new.machine.objects ≡ length core.old.machine.objects }
     ensures room { vec_capacity trace.new ≡ vec_capacity trace.old }
     ensures choice { choice.new.cells ≡ choice.old.cells }
 {
-    let EntryRoom {
-        choice: own,
-        answer,
-    } = room;
-    match own {
-        ChoiceRoom::Plain => record_plainly(core, choice, answer, trace, seat, ask),
-        ChoiceRoom::Collecting(own) => record_collecting(core, own, answer, trace, seat, ask),
+    match room {
+        ChoiceRoom::Plain => record_plainly(core, choice, trace, seat, ask),
+        ChoiceRoom::Collecting(own) => record_collecting(core, own, trace, seat, ask),
     }
 }
 
@@ -58,8 +54,7 @@ pub(crate) fn record<R: Drop>(
 pub(crate) fn record_in_place<R>(
     core: &mut Core<R>,
     lent: &mut Choice,
-    alloc: Global,
-    trace: &mut Vec<Entry>,
+    trace: &mut Vec<Record>,
     seat: u8,
     ask: Ask,
 ) -> Answer
@@ -68,19 +63,15 @@ pub(crate) fn record_in_place<R>(
     requires stands { Stands core.old }
     requires choice { length core.old.machine.objects ≤ lent.old.cells }
     requires plain { may_collect core.old.machine (Some ask) ≡ false }
-    ensures writes { WritesEntry seat core.old trace.old.items (Event.Ask ask) (Reply.Answered result None) core.new
+    ensures writes { AddsRecord seat core.old trace.old.items (Event.Ask ask) (Reply.Answered result None) core.new
         trace.new.items }
     ensures cells { length core.new.machine.objects ≡ length core.old.machine.objects }
     ensures room { vec_capacity trace.new ≡ vec_capacity trace.old }
     ensures choice { lent.new.cells ≡ lent.old.cells }
 {
     let answer = core.answer(&ask, lent);
-    trace.push_reserved(Entry {
-        seat,
-        ask,
-        answer: copy_without_room(alloc, &answer),
-        choice: Chosen::plain(lent.take_fresh()),
-    });
+    let choice = Chosen::plain(lent.take_fresh());
+    trace.push_reserved(Record::new(seat, ask, &answer, choice));
     answer
 }
 
@@ -89,8 +80,7 @@ pub(crate) fn record_in_place<R>(
 pub(crate) fn record_plainly<R: Drop>(
     core: &mut Core<R>,
     lent: &mut Choice,
-    room: AnswerRoom,
-    trace: &mut Vec<Entry>,
+    trace: &mut Vec<Record>,
     seat: u8,
     ask: Ask,
 ) -> Reply<R>
@@ -98,21 +88,15 @@ pub(crate) fn record_plainly<R: Drop>(
     requires place { vec_len trace.old < vec_capacity trace.old }
     requires stands { Stands core.old }
     requires choice { length core.old.machine.objects ≤ lent.old.cells }
-    requires room { HasRoomFor ask room }
     requires plain { may_collect core.old.machine (Some ask) ≡ false }
-    ensures writes { WritesEntry seat core.old trace.old.items (Event.Ask ask) result core.new trace.new.items }
+    ensures writes { AddsRecord seat core.old trace.old.items (Event.Ask ask) result core.new trace.new.items }
     ensures cells { length core.new.machine.objects ≡ length core.old.machine.objects }
     ensures room { vec_capacity trace.new ≡ vec_capacity trace.old }
     ensures choice { lent.new.cells ≡ lent.old.cells }
 {
-    let mut room = room;
     let reply = core.step_ask(&ask, lent);
-    trace.push_reserved(Entry {
-        seat,
-        ask,
-        answer: room.copy_of(&reply),
-        choice: Chosen::plain(lent.take_fresh()),
-    });
+    let choice = Chosen::plain(lent.take_fresh());
+    trace.push_reserved(Record::new(seat, ask, answer_of(&reply), choice));
     reply
 }
 
@@ -121,8 +105,7 @@ pub(crate) fn record_plainly<R: Drop>(
 fn record_collecting<R: Drop>(
     core: &mut Core<R>,
     own: Box<Choice>,
-    room: AnswerRoom,
-    trace: &mut Vec<Entry>,
+    trace: &mut Vec<Record>,
     seat: u8,
     ask: Ask,
 ) -> Reply<R>
@@ -130,21 +113,13 @@ fn record_collecting<R: Drop>(
     requires place { vec_len trace.old < vec_capacity trace.old }
     requires stands { Stands core.old }
     requires choice { length core.old.machine.objects ≤ own.value.cells }
-    requires room { HasRoomFor ask room }
-    ensures writes { WritesEntry seat core.old trace.old.items (Event.Ask ask) result core.new trace.new.items }
+    ensures writes { AddsRecord seat core.old trace.old.items (Event.Ask ask) result core.new trace.new.items }
     ensures cells { length core.new.machine.objects ≡ length core.old.machine.objects }
     ensures room { vec_capacity trace.new ≡ vec_capacity trace.old }
 {
     let mut own = Box::into_inner(own);
-    let mut room = room;
     let reply = core.step_ask(&ask, &mut own);
-    let answer = room.copy_of(&reply);
-    trace.push_reserved(Entry {
-        seat,
-        ask,
-        answer,
-        choice: own.into_chosen(),
-    });
+    trace.push_reserved(Record::new(seat, ask, answer_of(&reply), own.into_chosen()));
     reply
 }
 
@@ -152,8 +127,7 @@ fn record_collecting<R: Drop>(
 pub(crate) fn record_asked_end<R: Drop>(
     core: &mut Core<R>,
     choice: &mut Choice,
-    alloc: Global,
-    trace: &mut Vec<Entry>,
+    trace: &mut Vec<Record>,
     seat: u8,
     ask: Ask,
 ) -> Reply<R>
@@ -162,7 +136,7 @@ pub(crate) fn record_asked_end<R: Drop>(
     requires places { vec_len trace.old + owed core.old.machine ≤ vec_capacity trace.old }
     requires stands { Stands core.old }
     requires choice { length core.old.machine.objects ≤ choice.old.cells }
-    ensures writes { WritesEnd seat core.old trace.old.items (Event.Ask ask) result core.new trace.new.items }
+    ensures writes { AddsEnd seat core.old trace.old.items (Event.Ask ask) result core.new trace.new.items }
     ensures cells { length core.new.machine.objects ≡ length core.old.machine.objects }
     ensures room { vec_capacity trace.new ≡ vec_capacity trace.old }
     ensures choice { choice.new.cells ≡ choice.old.cells }
@@ -172,12 +146,7 @@ pub(crate) fn record_asked_end<R: Drop>(
             if is_refused(&answer) {
                 return Reply::Answered { answer, resource };
             }
-            trace.push_reserved(Entry {
-                seat,
-                ask,
-                answer: copy_without_room(alloc, &answer),
-                choice: Chosen::nothing(),
-            });
+            trace.push_reserved(Record::new(seat, ask, &answer, Chosen::nothing()));
             Reply::Answered { answer, resource }
         }
         Reply::Marked(progress) => Reply::Marked(progress),
@@ -188,38 +157,42 @@ pub(crate) fn record_asked_end<R: Drop>(
 pub(crate) fn record_end<R: Drop>(
     core: &mut Core<R>,
     choice: &mut Choice,
-    room: AnswerRoom,
-    trace: &mut Vec<Entry>,
+    trace: &mut Vec<Record>,
     seat: u8,
     ask: Ask,
     event: Event<R>,
 ) -> Reply<R>
     requires ask { ask_of event ≡ Some ask }
     requires end { is_end ask ≡ true }
-    requires room { HasRoomFor ask room }
     requires places { vec_len trace.old + owed core.old.machine ≤ vec_capacity trace.old }
     requires stands { Stands core.old }
     requires choice { length core.old.machine.objects ≤ choice.old.cells }
-    ensures writes { WritesEnd seat core.old trace.old.items event result core.new trace.new.items }
+    ensures writes { AddsEnd seat core.old trace.old.items event result core.new trace.new.items }
     ensures cells { length core.new.machine.objects ≡ length core.old.machine.objects }
     ensures room { vec_capacity trace.new ≡ vec_capacity trace.old }
     ensures choice { choice.new.cells ≡ choice.old.cells }
 {
-    let mut room = room;
     match core.step(event, choice) {
         Reply::Answered { answer, resource } => {
             if is_refused(&answer) {
                 return Reply::Answered { answer, resource };
             }
-            trace.push_reserved(Entry {
-                seat,
-                ask,
-                answer: room.copy(&answer),
-                choice: Chosen::nothing(),
-            });
+            trace.push_reserved(Record::new(seat, ask, &answer, Chosen::nothing()));
             Reply::Answered { answer, resource }
         }
         Reply::Marked(progress) => Reply::Marked(progress),
+    }
+}
+
+/// The answer of a reply that has one.
+#[inline(always)]
+fn answer_of<R>(reply: &Reply<R>) -> &Answer
+    requires { (answer : AnswerOf) × (answer_in reply.now ≡ Some answer) }
+    ensures { answer_in reply.now ≡ Some result.now }
+{
+    match reply {
+        Reply::Answered { answer, .. } => answer,
+        Reply::Marked(_) => unreachable!(),
     }
 }
 

@@ -1,4 +1,4 @@
--- Who tells what a call read: the end of the call, and its answer. A copy of either takes room for the bytes.
+-- Who tells what a call read: the end of the call, and its answer. A copy of the end takes room for the bytes.
 use Rattle.std.specs.Prelude.{◌≡◌, Bool, true, false, cond, Option, Some, is_some}
 use Rattle.jlr_machine.specs.declared.ask.Ask.{Ask}
 use Rattle.jlr_machine.specs.declared.ask.Ask.TheVariants.{CheckIn}

@@ -84,11 +84,10 @@ impl Data {
     }
 }
 
-/// Room for a copy of the end of a call: what was read stands in its ask and in its answer.
+/// Room for what a call reads, in which the history keeps it.
 #[derive(Drop)]
 pub struct CopyRoom {
-    ask: Data,
-    answer: Data,
+    bytes: Data,
 }
 
 impl CopyRoom {
@@ -98,20 +97,18 @@ impl CopyRoom {
     /// `AllocError` where there is no memory.
     pub fn new(alloc: Global) -> Result<Self, AllocError> {
         Ok(CopyRoom {
-            ask: Data::new(alloc)?,
-            answer: Data::new(alloc)?,
+            bytes: Data::new(alloc)?,
         })
     }
 
-    /// The room for the ask, and that for the answer, if there is any.
+    /// The room itself, if there is any.
     #[inline]
-    pub fn split(room: Option<Self>) -> (Option<Data>, Option<Data>)
-        ensures ask { is_some result.0 ≡ is_some room }
-        ensures answer { is_some result.1 ≡ is_some room }
+    pub fn into_data(room: Option<Self>) -> Option<Data>
+        ensures { is_some result ≡ is_some room }
     {
         match room {
-            Some(CopyRoom { ask, answer }) => (Some(ask), Some(answer)),
-            None => (None, None),
+            Some(CopyRoom { bytes }) => Some(bytes),
+            None => None,
         }
     }
 }

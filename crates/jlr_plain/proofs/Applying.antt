@@ -41,7 +41,7 @@ next_allowed m (Register k d h note) r = let f = leb-false _ _ (allowed m (Regis
 next_allowed m (Prepare k) r = let f = leb-false _ _ (allowed m (Prepare k) r Exhausted refl) in omega (arith, f)
 next_allowed m _ r = tt
 
-next_legal : (m : Machine) (e : Entry) → IsLegal m e → is_refusal e.answer ≡ false → HasNextAction m.next_action e.ask
+pub next_legal : (m : Machine) (e : Entry) → IsLegal m e → is_refusal e.answer ≡ false → HasNextAction m.next_action e.ask
 next_legal m e (carried_out c) n = next_allowed m e.ask c.allowed
 next_legal m e (refused r) n = absurd (both_ways (is_refusal e.answer) n (ap is_refusal r.answers))
 next_legal m e (heap_full r) n = absurd (both_ways (is_refusal e.answer) n (ap is_refusal r.answers))

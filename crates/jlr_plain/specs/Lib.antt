@@ -1,3 +1,4 @@
 pub mod Deciding
 pub mod Following
+pub mod Records
 pub mod Unseen

@@ -2,4 +2,5 @@
 
 pub mod answers;
 pub mod handing;
+pub mod replaying;
 pub mod replies;

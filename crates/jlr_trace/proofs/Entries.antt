@@ -155,7 +155,7 @@ answer_fits a range few = range
 
 -- ---- Entries
 
-entry_fits : (m : Machine) (w : IsWellFormed m) (e : Entry) → IsLegal m e → EntryRange e → EntryFits Two e
+pub entry_fits : (m : Machine) (w : IsWellFormed m) (e : Entry) → IsLegal m e → EntryRange e → EntryFits Two e
 entry_fits m w e legal range = record {
   seat = range.seat;
   ask = range.ask;

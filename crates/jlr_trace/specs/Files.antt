@@ -51,9 +51,12 @@ version_number Two = 2
 abbrev pub mark : Version → List ℕ
 mark version = 74 ∷ 76 ∷ 82 ∷ 84 ∷ version_number version ∷ []
 
+-- what stands before so many entries
+abbrev pub spelled_front : Version → ImageText → ℕ → List ℕ
+spelled_front version image count = mark version ++ spelled_image image ++ spelled_64 count
+
 abbrev pub spelled_file : FileText → List ℕ
-spelled_file t = mark t.version ++ spelled_image t.image ++ spelled_64 (length t.entries)
-    ++ flat_map (spelled_entry t.version) t.entries
+spelled_file t = spelled_front t.version t.image (length t.entries) ++ flat_map (spelled_entry t.version) t.entries
 
 pub record FileFits (t : FileText) : Type 0 where
   pub image : ImageFits t.version t.image

@@ -1,14 +1,15 @@
 //! An entry: who asked, the ask, its answer, and what was chosen.
 ghost use Rattle.std.specs.Prelude.{◌≡◌, ◌++◌, OnOk};
 ghost use Rattle.jlr_trace_fields.specs.Reading.{Reads};
-ghost use Rattle.jlr_trace_entries.specs.Entries.{entry_read, spelled_entry, EntryCounts};
+ghost use Rattle.jlr_trace_entries.specs.Entries.{entry_read, made_entry, spelled_entry, EntryCounts};
 
 use crate::answers::reading::take_answer;
 use crate::answers::writing::put_answer;
 use crate::asks::reading::take_ask;
 use crate::asks::writing::put_ask;
 use crate::choice::{choice_at, put_choice};
-use jlr_machine::entry::Entry;
+use jlr_machine::ask::{Answer, Ask};
+use jlr_machine::entry::{Chosen, Entry};
 use jlr_trace_fields::cursor::take_u8;
 use jlr_trace_fields::fault::ReadError;
 use jlr_trace_fields::number::put_u8;
@@ -55,8 +56,34 @@ pub fn put_entry(out: &mut Vec<u8>, version: Version, entry: &Entry) -> Result<(
     requires { EntryCounts version entry.now }
     ensures { OnOk result (out.new.items ≡ out.old.items ++ spelled_entry version entry.now) }
 {
-    put_u8(out, entry.seat)?;
-    put_ask(out, version, &entry.ask)?;
-    put_answer(out, &entry.answer)?;
-    put_choice(out, &entry.choice)
+    put_parts(
+        out,
+        version,
+        entry.seat,
+        &entry.ask,
+        &entry.answer,
+        &entry.choice,
+    )
+}
+
+/// The same of an entry whose parts are lent: its seat, its ask, its answer, and what was chosen.
+///
+/// # Errors
+/// `AllocError` where there is no memory.
+pub fn put_parts(
+    out: &mut Vec<u8>,
+    version: Version,
+    seat: u8,
+    ask: &Ask,
+    answer: &Answer,
+    choice: &Chosen,
+) -> Result<(), AllocError>
+    requires { EntryCounts version (made_entry seat ask.now answer.now choice.now) }
+    ensures { OnOk result (out.new.items ≡ out.old.items
+        ++ spelled_entry version (made_entry seat ask.now answer.now choice.now)) }
+{
+    put_u8(out, seat)?;
+    put_ask(out, version, ask)?;
+    put_answer(out, answer)?;
+    put_choice(out, choice)
 }

@@ -3,6 +3,7 @@ ghost use Rattle.std.specs.Prelude.{◌≡◌, ◌≤◌, false, [], IfOk, OnOk,
 ghost use Rattle.jlr_machine.specs.declared.machine.Machine.{Machine as MachineOf};
 ghost use Rattle.jlr_machine.specs.Run.{Run, empty};
 ghost use Rattle.jlr_machine.specs.WellFormed.{IsImage, IsWellFormed};
+ghost use Rattle.jlr_plain.specs.Records.{replayed};
 ghost use Rattle.jlr_plain.specs.Unseen.{unseen};
 ghost use Rattle.jlr_book.specs.Led.{with_cycle_closed, shut};
 ghost use Rattle.jlr_book.specs.ImageKeeping.{kept_from};
@@ -10,11 +11,11 @@ ghost use Rattle.jlr_book.specs.ImageKeeping.{kept_from};
 use crate::image::cells::add_cells;
 use crate::image::following::{follow_all, follow_at, make_array, work_of};
 use jlr_machine::copies::copy_machine;
-use jlr_machine::entry::Entry;
 use jlr_machine::items::Items;
 use jlr_machine::machine::Machine;
 use jlr_machine::object::Object;
 use jlr_plain::empty::{empty_plain, empty_plain_with};
+use jlr_plain::record::Record;
 use jlr_types::Limits;
 use std::alloc::{AllocError, Global};
 use std::marker::Model;
@@ -46,7 +47,7 @@ pub struct Image {
     /// The cells of that machine, as far as they are made.
     cells: Vec<Option<Object>>,
     /// What was taken over: those before the place are followed.
-    entries: Vec<Entry>,
+    records: Vec<Record>,
     place: usize,
     /// Whether an array was made.
     arrays: bool,
@@ -61,9 +62,9 @@ impl Model for Image {
 
     ghost Value = { MachineOf };
 
-    ghost view = { λ i. image_from i.limits i.machine (drop i.place i.entries.items) };
+    ghost view = { λ i. image_from i.limits i.machine (drop i.place i.records.items) };
 
-    ghost invariant = { λ i. KeepsImage i.limits i.machine i.cells i.entries i.place };
+    ghost invariant = { λ i. KeepsImage i.limits i.machine i.cells i.records i.place };
 }
 
 impl Image {
@@ -76,7 +77,7 @@ impl Image {
             limits,
             machine: None,
             cells: Vec::new(alloc),
-            entries: Vec::new(alloc),
+            records: Vec::new(alloc),
             place: 0,
             arrays: false,
             work: 0,
@@ -86,7 +87,7 @@ impl Image {
     /// Whether something is left to be followed, or to be let go.
     #[inline(always)]
     pub(crate) fn is_behind(&self) -> bool {
-        !self.entries.is_empty()
+        !self.records.is_empty()
     }
 
     /// Follows a few entries of those that are left. Where there is no memory the next call tries again.
@@ -100,7 +101,7 @@ impl Image {
     /// Whether a cut is to be followed, and not copied: where a copy would be long, as the trace may tell by an array
     /// that was made, or costs more than to follow the entries, since they are fewer than the cells. It is copied where
     /// following has become more work than that.
-    pub(crate) fn is_followed(&mut self, trace: &[Entry]) -> bool
+    pub(crate) fn is_followed(&mut self, trace: &[Record]) -> bool
         ensures { self.new ≡ self.old }
     {
         let gives_up = self.has_given_up();
@@ -124,10 +125,11 @@ impl Image {
     /// # Errors
     /// `AllocError` where there is no memory, for that room or for what is left to be followed. Nothing has changed
     /// then.
-    pub fn lead_on(&mut self, trace: &mut Vec<Entry>) -> Result<(), AllocError>
+    pub fn lead_on(&mut self, trace: &mut Vec<Record>) -> Result<(), AllocError>
         requires image { IsImage self.old }
-        requires run { (m : MachineOf) × Run self.old trace.old.items m }
-        ensures image { OnOk result ((m : MachineOf) → Run self.old trace.old.items m → self.new ≡ shut m) }
+        requires run { (m : MachineOf) × Run self.old (replayed self.old trace.old.items) m }
+        ensures image { OnOk result ((m : MachineOf) → Run self.old (replayed self.old trace.old.items) m
+            → self.new ≡ shut m) }
         ensures items { OnOk result (trace.new.items ≡ []) }
         ensures room { vec_capacity trace.old ≤ vec_capacity trace.new }
         ensures err { OnErr result ((self.new ≡ self.old) × (trace.new ≡ trace.old)) }
@@ -141,7 +143,7 @@ impl Image {
         requires { (m : MachineOf) × IsWellFormed m × (machine ≡ unseen m) }
         ensures { self.new ≡ shut machine }
     {
-        self.entries.clear();
+        self.records.clear();
         self.place = 0;
         drop(replace(&mut self.cells, Vec::new(self.alloc)));
         drop(self.machine.replace(machine));
@@ -155,7 +157,7 @@ impl Image {
         ensures { IfOk result (λ m. m ≡ self.now) }
     {
         let mut machine = copy_kept(alloc, self.limits, &self.machine)?;
-        if follow_all(alloc, &mut machine, &self.entries[self.place..]).is_err() {
+        if follow_all(alloc, &mut machine, &self.records[self.place..]).is_err() {
             drop(machine);
             return Err(AllocError);
         }
@@ -174,7 +176,7 @@ impl Image {
             let piece = self.piece();
             return self.make_cells(piece);
         }
-        if self.place < self.entries.len() {
+        if self.place < self.records.len() {
             return self.follow_if_quick();
         }
         self.let_go();
@@ -205,10 +207,10 @@ impl Image {
     fn note_work(&mut self)
         ensures { self.new ≡ self.old }
     {
-        let (Some(machine), Some(entry)) = (&self.machine, self.entries.get(self.place)) else {
+        let (Some(machine), Some(record)) = (&self.machine, self.records.get(self.place)) else {
             return;
         };
-        self.work = self.work.saturating_add(work_of(machine, entry));
+        self.work = self.work.saturating_add(work_of(machine, record));
     }
 
     /// So many cells are made at once: all of them while a quarter of a trace is written.
@@ -244,13 +246,13 @@ impl Image {
     fn follow_one(&mut self) -> Result<(), AllocError>
         ensures { self.new ≡ self.old }
     {
-        if self.entries.len() <= self.place {
+        if self.records.len() <= self.place {
             return Ok(());
         }
         let Some(machine) = &mut self.machine else {
             return Ok(());
         };
-        follow_at(self.alloc, machine, self.entries.as_slice(), self.place)?;
+        follow_at(self.alloc, machine, self.records.as_slice(), self.place)?;
         self.place += 1;
         Ok(())
     }
@@ -268,11 +270,11 @@ impl Image {
     fn let_go(&mut self)
         ensures { self.new ≡ self.old }
     {
-        if self.place < self.entries.len() {
+        if self.place < self.records.len() {
             return;
         }
-        let left = self.entries.len().saturating_sub(LET_GO);
-        self.entries.truncate(left);
+        let left = self.records.len().saturating_sub(LET_GO);
+        self.records.truncate(left);
         self.place = left;
     }
 
@@ -280,32 +282,33 @@ impl Image {
     fn settle(&mut self) -> Result<(), AllocError>
         ensures { self.new ≡ self.old }
     {
-        if self.entries.is_empty() {
+        if self.records.is_empty() {
             return Ok(());
         }
         let cells = self.limits.cells as usize;
-        let count = self.entries.len();
+        let count = self.records.len();
         self.make_cells(cells)?;
         self.follow_many(count)
     }
 
     /// Takes the trace over, where nothing is left.
-    fn take_over(&mut self, trace: &mut Vec<Entry>) -> Result<(), AllocError>
+    fn take_over(&mut self, trace: &mut Vec<Record>) -> Result<(), AllocError>
         requires image { IsImage self.old }
-        requires run { (m : MachineOf) × Run self.old trace.old.items m }
-        ensures image { OnOk result ((m : MachineOf) → Run self.old trace.old.items m → self.new ≡ shut m) }
+        requires run { (m : MachineOf) × Run self.old (replayed self.old trace.old.items) m }
+        ensures image { OnOk result ((m : MachineOf) → Run self.old (replayed self.old trace.old.items) m
+            → self.new ≡ shut m) }
         ensures items { OnOk result (trace.new.items ≡ []) }
         ensures room { vec_capacity trace.old ≤ vec_capacity trace.new }
         ensures err { OnErr result ((self.new ≡ self.old) × (trace.new ≡ trace.old)) }
     {
-        if self.place < self.entries.len() {
+        if self.place < self.records.len() {
             return Err(AllocError);
         }
-        self.entries.clear();
+        self.records.clear();
         self.place = 0;
-        self.entries.reserve(trace.capacity())?;
+        self.records.reserve(trace.capacity())?;
         close(&mut self.machine);
-        swap(&mut self.entries, trace);
+        swap(&mut self.records, trace);
         Ok(())
     }
 }

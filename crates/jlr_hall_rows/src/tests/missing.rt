@@ -153,7 +153,7 @@ fn play<L: Naming + Limited, T: Wait>(
 fn told<R: Drop>(outcome: Result<Book<R>, CloseFault>) -> Closed {
     match outcome {
         Ok(book) => {
-            let closed = (book.base(), book.entries().len());
+            let closed = (book.base(), book.records().len());
             drop(book);
             Ok(closed)
         }

@@ -115,7 +115,7 @@ fn played_in<L: Naming + Limited, T: Wait>(
 fn told<R: Drop>(outcome: Result<Book<R>, CloseFault>) -> Closed {
     match outcome {
         Ok(book) => {
-            let closed = (book.base(), book.entries().len());
+            let closed = (book.base(), book.records().len());
             drop(book);
             Some(closed)
         }

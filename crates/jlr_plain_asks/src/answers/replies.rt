@@ -248,7 +248,7 @@ fn gives_taken(machine: &Machine, line: &[Slot], answer: &Answer) -> bool
     }
 }
 
-fn counts_of(machine: &Machine) -> Stat
+pub(crate) fn counts_of(machine: &Machine) -> Stat
     ensures { StatAnswer result ≡ stat_of machine.now }
 {
     Stat {

@@ -41,7 +41,7 @@ where
 fn shown<R: Drop>(book: Book<R>) -> Shown {
     let shown = Shown {
         base: book.base(),
-        entries: book.entries().len(),
+        entries: book.records().len(),
     };
     drop(book);
     shown

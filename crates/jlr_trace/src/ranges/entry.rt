@@ -4,13 +4,14 @@ ghost use Rattle.jlr_trace_fields.specs.declared.version.Version.TheVariants.{Tw
 ghost use Rattle.jlr_trace_fields.specs.Spelling.{IsBytes, IsText};
 ghost use Rattle.jlr_trace_entries.specs.Asks.{AskFits, CallOutcomeFits};
 ghost use Rattle.jlr_trace_entries.specs.Answers.{StatFits};
-ghost use Rattle.jlr_trace.specs.Ranges.{AnswerRange, ChoiceRange, CollectedRange};
+ghost use Rattle.jlr_trace_entries.specs.Entries.{made_entry};
+ghost use Rattle.jlr_trace.specs.Ranges.{AnswerRange, ChoiceRange, CollectedRange, EntryRange};
 
 use crate::ranges::list::{Ranged, all_in_range};
 use crate::ranges::object::work_in_range;
 use jlr_machine::ask::{Answer, Ask, CallOutcome, Stat};
 use jlr_machine::data::Data;
-use jlr_machine::entry::{Chosen, Collected, Entry};
+use jlr_machine::entry::Chosen;
 use jlr_types::{Handle, Layout, Mutator};
 
 // ---- Asks
@@ -271,15 +272,12 @@ fn choice_in_range(choice: &Chosen)
     all_in_range(choice.fresh().as_slice());
 }
 
-impl Ranged for Entry {
-    ghost use Rattle.jlr_trace.specs.Ranges.{EntryRange};
-
-    ghost Range = { EntryRange };
-
-    fn in_range(&self) {
-        let _seat = self.seat;
-        ask_in_range(&self.ask);
-        answer_in_range(&self.answer);
-        choice_in_range(&self.choice);
-    }
+/// What their types say of the parts of an entry: its seat, its ask, its answer, and what was chosen.
+pub fn parts_in_range(seat: u8, ask: &Ask, answer: &Answer, choice: &Chosen)
+    ensures { EntryRange (made_entry seat ask.now answer.now choice.now) }
+{
+    let _seat = seat;
+    ask_in_range(ask);
+    answer_in_range(answer);
+    choice_in_range(choice);
 }

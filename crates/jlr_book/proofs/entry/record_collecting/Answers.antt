@@ -1,20 +1,22 @@
-use Rattle.std.proofs.Common.{refl, subst, sym}
+use Rattle.std.proofs.Common.{List, [], ◌∷◌, ◌++◌, ap, refl, subst, sym, ◌∙◌}
+use Rattle.jlr_plain.specs.declared.record.Record.{Record}
 use Rattle.jlr_core.specs.Steps.{IsStep}
 use Rattle.jlr_event.specs.declared.event.Event.TheVariants.{Ask as Asks}
-use Rattle.jlr_book.proofs.Entering.{answered, writes_noted}
+use Rattle.jlr_book.proofs.Entering.{adds_record, answered}
 use Rattle.jlr_book.proofs.entry.record_collecting.Goals as goal
 
-pub copy_of-answer-requires : goal.copy_of-answer-requires
-copy_of-answer-requires g c =
+pub answer_of-requires : goal.answer_of-requires
+answer_of-requires g c =
     let made = c.step_ask-reply in
-    answered c.args.core.now made.new.self (Asks c.args.ask) made.result made.new.choice.chosen c.args.ask c.args.room made.ensures.step
-    refl c.requires.stands c.requires.room
+    answered c.args.core.now made.new.self (Asks c.args.ask) made.result made.new.choice.chosen c.args.ask made.ensures.step
+    refl c.requires.stands
 
 pub returns-clause-writes : goal.returns-clause-writes
 returns-clause-writes g c =
     let made = c.step_ask-reply in
-    let s = subst (λ chosen. IsStep c.args.core.now (Asks c.args.ask) made.result chosen made.new.self) (sym c.into_chosen.ensures)
+    let step = subst (λ chosen. IsStep c.args.core.now (Asks c.args.ask) made.result chosen made.new.self) (sym c.into_chosen.ensures)
     made.ensures.step in
-    writes_noted c.args.core.now made.new.self (Asks c.args.ask) made.result c.copy_of-answer.result c.args.ask c.into_chosen.result
-    c.args.trace.now.items c.push_reserved.new.self.items c.args.seat
-    s refl c.copy_of-answer.ensures c.push_reserved.ensures.items
+    let more = c.push_reserved.ensures.items
+    ∙ ap {A = Record} {B = List Record} (λ r. c.args.trace.now.items ++ r ∷ []) c.new.ensures in
+    adds_record c.args.core.now made.new.self (Asks c.args.ask) made.result c.answer_of.result.now c.args.ask c.into_chosen.result
+    c.args.trace.now.items c.push_reserved.new.self.items c.args.seat step refl c.answer_of.ensures more

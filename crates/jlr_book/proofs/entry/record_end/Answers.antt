@@ -1,15 +1,9 @@
-use Rattle.std.proofs.Common.{inl, inr, arith, sym, subst, ◌∙◌}
+use Rattle.std.proofs.Common.{List, [], ◌∷◌, ◌++◌, ap, inl, inr, arith, sym, subst, refl, ◌∙◌}
+use Rattle.jlr_plain.specs.declared.record.Record.{Record}
 use Rattle.jlr_event.specs.declared.event.Reply.TheVariants.{Answered}
 use Rattle.jlr_core.specs.Steps.{IsStep}
-use Rattle.jlr_book.proofs.Entering.{end_chose, list_fits, not_refused, owed_less_by, turned_away, writes}
+use Rattle.jlr_book.proofs.Entering.{adds_record, end_chose, not_refused, owed_less_by, turned_away}
 use Rattle.jlr_book.proofs.entry.record_end.Goals as goal
-
-pub copy-requires : goal.copy-requires
-copy-requires g c =
-    let s = subst (λ q. IsStep c.args.core.now c.args.event q c.step.new.choice.chosen c.step.new.self) c.in-Answered.is
-    c.step.ensures.step in
-    list_fits c.args.core.now c.step.new.self c.args.event c.in-Answered.answer c.in-Answered.resource c.step.new.choice.chosen c.args.ask
-    c.args.room s c.requires.ask c.requires.stands c.requires.room
 
 pub push_reserved-requires : goal.push_reserved-requires
 push_reserved-requires g c =
@@ -35,10 +29,10 @@ returns-else-is_refused-clause-writes g c =
     c.step.new.choice.chosen s c.requires.ask c.requires.end c.requires.stands in
     let noted = subst (λ x. IsStep c.args.core.now c.args.event (Answered c.in-Answered.answer c.in-Answered.resource) x c.step.new.self)
     (sym (c.nothing.ensures ∙ nothing)) s in
+    let more = c.push_reserved.ensures.items
+    ∙ ap {A = Record} {B = List Record} (λ r. c.args.trace.now.items ++ r ∷ []) c.new.ensures in
     inl (
-      writes c.args.core.now c.step.new.self c.args.event c.in-Answered.answer c.copy.result c.in-Answered.resource c.args.ask
-          c.nothing.result
-          c.args.trace.now.items c.push_reserved.new.self.items c.args.seat noted c.requires.ask c.push_reserved.ensures.items
-          c.copy.ensures,
+      adds_record c.args.core.now c.step.new.self c.args.event (Answered c.in-Answered.answer c.in-Answered.resource) c.in-Answered.answer
+          c.args.ask c.nothing.result c.args.trace.now.items c.push_reserved.new.self.items c.args.seat noted c.requires.ask refl more,
       λ by e. not_refused c.in-Answered.answer by (sym c.is_refused.ensures ∙ c.if-is_refused.false) e,
     )

@@ -158,7 +158,7 @@ fn shown(book: &Book<u32>, name: &str, wanted: &str) -> Option<bool> {
 
 fn shown_trace(book: &Book<u32>, wanted: &str) -> Option<bool> {
     let (base, entries) = wanted.split_once(' ')?;
-    Some(base.parse() == Ok(book.base()) && entries.parse() == Ok(book.entries().len()))
+    Some(base.parse() == Ok(book.base()) && entries.parse() == Ok(book.records().len()))
 }
 
 fn shown_wait(book: &Book<u32>, wanted: &str) -> Option<bool> {

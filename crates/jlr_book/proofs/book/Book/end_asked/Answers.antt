@@ -1,31 +1,43 @@
 use Rattle.std.proofs.Common.{refl, arith, subst, vec_capacity}
+use Rattle.jlr_plain.specs.Records.{replayed}
+use Rattle.jlr_plain.proofs.Records.{as_many}
 use Rattle.jlr_event.specs.declared.event.Event.TheVariants.{Ask as Asks}
 use Rattle.jlr_book.specs.Rules.{EndsBy}
+use Rattle.jlr_book.proofs.Entering.{end_more}
 use Rattle.jlr_book.proofs.Histories.{end_goes_on, ends_by, told}
 use Rattle.jlr_book.proofs.book.Book.end_asked.Goals as goal
 
 pub invariant_of-self : goal.invariant_of-self
 invariant_of-self g c =
     let old = c.self.inside in
-    let new = c.record_asked_end.new in
+    let did = c.record_asked_end in
+    let new = did.new in
+    let entries = replayed old.image old.trace.items in
+    let entries' = replayed old.image new.trace.items in
     let l = old.trace.ok.0 in
     let l' = new.trace.ok.0 in
+    let m = as_many old.image old.trace.items in
+    let m' = as_many old.image new.trace.items in
     let kept = c.self.invariant in
-    let x = end_goes_on old.limits old.base (vec_capacity old.trace) old.image old.trace.items new.trace.items old.core new.core c.args.seat
-    (Asks c.args.ask) c.record_asked_end.result c.args.ask
-    kept.history refl c.requires.end c.record_asked_end.ensures.writes c.record_asked_end.ensures.cells (omega (arith, l, kept.places)) in
+    let w = end_more old.image old.trace.items new.trace.items old.core new.core c.args.seat (Asks c.args.ask) did.result kept.history.ends
+    did.ensures.writes in
+    let x = end_goes_on old.limits old.base (vec_capacity old.trace) old.image entries entries' old.core new.core c.args.seat
+    (Asks c.args.ask) did.result c.args.ask kept.history refl c.requires.end w did.ensures.cells
+    (omega (arith, l, m, kept.places)) in
     record {
       history = x.0;
-      places =
-          omega (arith, l', x.1, c.record_asked_end.ensures.room);
-      choice = omega (arith, kept.choice, c.record_asked_end.ensures.choice);
+      places = omega (arith, l', m', x.1, did.ensures.room);
+      choice = omega (arith, kept.choice, did.ensures.choice);
     }
 
 pub returns : goal.returns
 returns g c =
     let old = c.self.inside in
-    let new = c.record_asked_end.new in
-    subst (λ h. EndsBy c.args.seat h (Asks c.args.ask) c.record_asked_end.result
-    (told old.limits old.base old.image new.trace.items new.core)) c.self.view_is
-    (ends_by old.limits old.base old.image old.trace.items new.trace.items old.core new.core c.args.seat (Asks c.args.ask)
-    c.record_asked_end.result c.record_asked_end.ensures.writes)
+    let did = c.record_asked_end in
+    let new = did.new in
+    let entries = replayed old.image old.trace.items in
+    let entries' = replayed old.image new.trace.items in
+    let w = end_more old.image old.trace.items new.trace.items old.core new.core c.args.seat (Asks c.args.ask) did.result
+    c.self.invariant.history.ends did.ensures.writes in
+    subst (λ h. EndsBy c.args.seat h (Asks c.args.ask) did.result (told old.limits old.base old.image entries' new.core)) c.self.view_is
+    (ends_by old.limits old.base old.image entries entries' old.core new.core c.args.seat (Asks c.args.ask) did.result w)

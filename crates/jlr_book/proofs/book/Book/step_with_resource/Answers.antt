@@ -7,7 +7,7 @@ use Rattle.jlr_laws.proofs.Frames.{some_same}
 use Rattle.jlr_event.specs.declared.event.Event.{Event}
 use Rattle.jlr_event.specs.declared.event.Event.TheVariants.{Ask as Asks, CheckIn, Mark, Opened}
 use Rattle.jlr_event.specs.Events.{ask_of}
-use Rattle.jlr_book.specs.Lists.{hands_in_or_marks}
+use Rattle.jlr_book.specs.Kinds.{hands_in_or_marks}
 use Rattle.jlr_book.proofs.Histories.{steps_as_ended}
 use Rattle.jlr_book.proofs.book.Book.step_with_resource.Goals as goal
 

@@ -20,7 +20,7 @@ invariant_of-self-2 c =
     let old = c.self.inside in
     let fresh = c.replace-cells.ensures.after in
     record {
-      leads = subst (λ (m : Machine). LeadsOn m (drop old.place old.entries.items)) (sym (whole c)) c.self.invariant.leads;
+      leads = subst (λ (m : Machine). LeadsOn m (drop old.place old.records.items)) (sym (whole c)) c.self.invariant.leads;
       free = record {
         nothing = let a = c.new.ensures.items in let b = c.new.ensures.len in let d = c.replace-cells.ensures.after in cc;
         few = let b = c.new.ensures.len in let d = ap vec_len c.replace-cells.ensures.after in omega (arith, b, d);
@@ -31,4 +31,4 @@ invariant_of-self-2 c =
 pub returns : goal.returns
 returns c =
     let old = c.self.inside in
-    ap {A = Machine} {B = Machine} (λ m. shut (led m (drop old.place old.entries.items))) (whole c) ∙ c.self.view_is
+    ap {A = Machine} {B = Machine} (λ m. shut (led m (drop old.place old.records.items))) (whole c) ∙ c.self.view_is

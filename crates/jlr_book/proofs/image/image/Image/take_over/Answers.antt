@@ -9,12 +9,12 @@ use Rattle.jlr_book.proofs.image.image.Image.take_over.Goals as goal
 pub returns-clause-image : goal.returns-clause-image
 returns-clause-image c = λ m run.
     let old = c.self.inside in
-    let l = old.entries.ok.0 in
-    let none : drop old.place old.entries.items ≡ [] =
-    drop_of_length-le old.entries.items (omega (arith, l, c.len.ensures, c.if-self-len.false)) in
+    let l = old.records.ok.0 in
+    let none : drop old.place old.records.items ≡ [] =
+    drop_of_length-le old.records.items (omega (arith, l, c.len.ensures, c.if-self-len.false)) in
     let kept = c.close.ensures in
-    let entries = c.swap.ensures.x_after in
+    let records = c.swap.ensures.x_after in
     ap (λ k. image_from old.limits k (drop 0 c.swap.new.x.items)) kept
-    ∙ ap (λ v. image_from old.limits (option_map {T = Machine} with_cycle_closed old.machine) (drop 0 v.items)) entries
-    ∙ takes_over old.limits old.machine c.args.self.now m (drop old.place old.entries.items) c.args.trace.now.items c.self.invariant.leads
+    ∙ ap (λ v. image_from old.limits (option_map {T = Machine} with_cycle_closed old.machine) (drop 0 v.items)) records
+    ∙ takes_over old.limits old.machine c.args.self.now m (drop old.place old.records.items) c.args.trace.now.items c.self.invariant.leads
     none c.self.view_is run

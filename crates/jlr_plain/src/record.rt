@@ -1,0 +1,99 @@
+//! Entries as a history keeps them: without the answers that take much room and that the machine gives once more.
+ghost use Rattle.std.specs.Prelude.{◌≡◌};
+ghost use Rattle.jlr_machine.specs.declared.ask.Answer.TheVariants.{Done};
+ghost use Rattle.jlr_plain.specs.Records.{answer_from, record_of, rid_told, short_of};
+
+use jlr_machine::ask::{Answer, Ask, Handed};
+use jlr_machine::entry::Chosen;
+use jlr_machine::text::WriteCount;
+use jlr_types::{Fault, Handle, Refusal, Rid};
+
+/// An answer that takes a byte at most, or none where it is replayed. The Rid of a `Prepared` stands beside it.
+#[derive(Clone, Copy, PartialEq, Eq, Debug)]
+pub enum ShortAnswer {
+    Done,
+    Handle(Handle),
+    Truth(bool),
+    Wrote(WriteCount),
+    Faulted(Fault),
+    AlreadyDone,
+    Prepared,
+    Handed(Handed),
+    Refused(Refusal),
+    /// A number, a list, counts, a job, a resource, or what was read: the machine gives it once more.
+    Replayed,
+}
+
+/// An entry without the answer that is replayed, in 64 bytes.
+#[derive(Drop)]
+pub struct Record {
+    /// The seat that asked.
+    pub seat: u8,
+    pub answer: ShortAnswer,
+    /// The Rid of a `Prepared`, else 0.
+    pub rid: Rid,
+    pub ask: Ask,
+    pub choice: Chosen,
+}
+
+impl Record {
+    /// The record of an entry. Takes no memory.
+    #[inline(always)]
+    pub fn new(seat: u8, ask: Ask, answer: &Answer, choice: Chosen) -> Self
+        ensures { result ≡ record_of (record { seat = seat; ask = ask; answer = answer.now; choice = choice }) }
+    {
+        Record {
+            seat,
+            answer: short(answer),
+            rid: rid(answer),
+            ask,
+            choice,
+        }
+    }
+}
+
+/// What is kept of an answer.
+#[inline(always)]
+fn short(answer: &Answer) -> ShortAnswer
+    ensures { result ≡ short_of answer.now }
+{
+    match answer {
+        Answer::Done => ShortAnswer::Done,
+        Answer::Handle(handle) => ShortAnswer::Handle(*handle),
+        Answer::Truth(truth) => ShortAnswer::Truth(*truth),
+        Answer::Wrote(count) => ShortAnswer::Wrote(*count),
+        Answer::Faulted(fault) => ShortAnswer::Faulted(*fault),
+        Answer::AlreadyDone => ShortAnswer::AlreadyDone,
+        Answer::Prepared(_) => ShortAnswer::Prepared,
+        Answer::Handed(handed) => ShortAnswer::Handed(*handed),
+        Answer::Refused(by) => ShortAnswer::Refused(*by),
+        _ => ShortAnswer::Replayed,
+    }
+}
+
+#[inline(always)]
+fn rid(answer: &Answer) -> Rid
+    ensures { result ≡ rid_told answer.now }
+{
+    match answer {
+        Answer::Prepared(rid) => *rid,
+        _ => Rid::new(0),
+    }
+}
+
+/// An answer that changes the machine as that of the record does: `Done` in the place of one that is replayed.
+pub(crate) fn stand_in(kept: &Record) -> Answer
+    ensures { result ≡ answer_from Done kept.now.answer kept.now.rid }
+{
+    match kept.answer {
+        ShortAnswer::Done | ShortAnswer::Replayed => Answer::Done,
+        ShortAnswer::Handle(handle) => Answer::Handle(handle),
+        ShortAnswer::Truth(truth) => Answer::Truth(truth),
+        ShortAnswer::Wrote(count) => Answer::Wrote(count),
+        ShortAnswer::Faulted(fault) => Answer::Faulted(fault),
+        ShortAnswer::AlreadyDone => Answer::AlreadyDone,
+        ShortAnswer::Prepared => Answer::Prepared(kept.rid),
+        ShortAnswer::Handed(handed) => Answer::Handed(handed),
+        ShortAnswer::Refused(by) => Answer::Refused(by),
+    }
+}
