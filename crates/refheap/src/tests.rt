@@ -2,4 +2,5 @@
 //! protocol and of trace files.
 mod ends;
 mod saves;
+mod sentences;
 mod verdicts;

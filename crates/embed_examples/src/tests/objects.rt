@@ -67,6 +67,20 @@ const LISTS: &str = "
     full -> done
     enqueued 5 -> yes
 
+== one settling hands over all that is pending
+    by_hand
+    queue -> handle 1
+    new -> handle 2
+    weak 2 1 -> handle 3
+    weak 2 1 -> handle 4
+    drop 2 -> done
+    full -> done
+    enqueued 3 -> no
+    enqueued 4 -> no
+    settle
+    enqueued 3 -> yes
+    enqueued 4 -> yes
+
 == a reference is cleared and enqueued by hand
     queue -> handle 1
     new -> handle 2

@@ -7,3 +7,4 @@ mod player;
 mod reading;
 mod streams;
 mod verdicts;
+mod watching;

@@ -29,11 +29,14 @@ const SESSIONS: &str = "
     book 0 10 | cleaner; new -; register 1 2 7; drop 2; gc
         -> = 1; = 2; = 3; ok; ok
 
-    nothing is lost by a cut, be it before a collection or before what that left pending is handed over:
+    nothing is lost by a cut, be it before a collection, or before what that left pending is handed over or taken up:
     trace 64, book 64 8 | queue; new -; weak 2 1; drop 2; 1 to 59: stat; gc; poll 1; refers 3 0; poll 1; 1 to 2: stat
         -> = 1; = 2; = 3; ok; 1 to 59: stat 3 0 0 0 0; ok; = 2; yes; = 0; 1 to 2: stat 2 0 0 0 0
     trace 64, book 64 6 | queue; new -; weak 2 1; drop 2; 1 to 58: stat; gc; poll 1; refers 3 0; poll 1; stat
         -> = 1; = 2; = 3; ok; 1 to 58: stat 3 0 0 0 0; ok; = 2; yes; = 0; stat 2 0 0 0 0
+    # The cleanable's hand-over is the last entry that fits, so that the cleaner's take-up cuts.
+    trace 64, book 64 4 | cleaner; new -; register 1 2 7; drop 2; 1 to 57: stat; gc; notes
+        -> = 1; = 2; = 3; ok; 1 to 57: stat 3 0 0 0 0; ok; list 7
 ";
 
 #[test]

@@ -1,5 +1,6 @@
 //! Each end of an audit: the status of the program, what it says on the standard error, and what it writes.
 use super::ends::Kept;
+use super::sentences::{LISTS, filled};
 use jlr_command_line::arguments::AuditOrder;
 use jlr_command_line::report::status_after;
 use jlr_commands::audit::audit;
@@ -21,7 +22,7 @@ const FILE: &str = "
 
 /// Each row says how many bytes of the file stand at the front, what stands behind them in place of as many, an arrow,
 /// and how the audit ends: the status, what is said, and what is written. Without bytes there is no file. A row with
-/// `json` in front asks for JSON.
+/// `json` in front asks for JSON, and one with `two` in front has the file in version 2.
 const ROWS: &str = "
     103 -> 0||legal 2 version 1
     100 01 -> 3||illegal 2 version 1 entry 2 of seat 0, leave of mutator 1, answered ok: it has to be refused 13, since the mutator is not joined, or may not join
@@ -30,6 +31,9 @@ const ROWS: &str = "
     93 00 0000 00 01 00000000 00000000 00 0100 00 00 -> 3||illegal 1 version 1 entry 1 of seat 0, join of mutator 0, answered ok: its collection may not come here, or keeps or hands over other objects than it may
     93 00 0000 00 02 01 00000000 00 0100 00 00 -> 3||illegal 1 version 1 entry 1 of seat 0, join of mutator 0, answered ok: it makes 0 objects, each in a free cell of its own, and the entry tells others
     60 00 -> 3||illegal 0 version 1 the image is not well formed
+    20 00000001 00000010 0100 00 00000000 00000000 00000000 00000000 00000000 00000000 00000000 0000000000000001 0000000000000000 \
+    0000000000000000 0000000000000000 0000000000000002 00 0000 00 00 00 0100 00 00 -> \
+    3||illegal 0 version 1 the image has an object in a slot that is no cell
     12 0000000000000007 -> 0||legal 2 version 1 it goes on from the machine in the file, after 7 entries that are not
     102 -> 4|refheap: trace truncated|
     1 58 -> 4|refheap: bad mark|
@@ -49,12 +53,34 @@ const ROWS: &str = "
 /// Where the tests write a history.
 const PATH: &str = "refheap_history";
 
-/// Appends the bytes that words of hexadecimal digits tell of.
+/// Appends the bytes that words of hexadecimal digits tell of. A word like `9*0a0b` tells of those behind its star,
+/// behind each number from 1 to 9.
 pub(super) fn push_decoded(bytes: &mut Vec<u8>, text: &str) -> Result<(), Fail> {
     for word in text.split_whitespace() {
-        for at in (0..word.len()).step_by(2) {
-            bytes.push(u8::from_str_radix(word.get(at..at + 2).ok_or("no bytes")?, 16)?)?;
-        }
+        push_word(bytes, word)?;
+    }
+    Ok(())
+}
+
+fn push_word(bytes: &mut Vec<u8>, word: &str) -> Result<(), Fail> {
+    match word.split_once("*") {
+        Some((last, digits)) => push_behind_each(bytes, last, digits),
+        None => push_digits(bytes, word),
+    }
+}
+
+fn push_behind_each(bytes: &mut Vec<u8>, last: &str, digits: &str) -> Result<(), Fail> {
+    let last: u8 = last.parse()?;
+    for number in 1..=last {
+        bytes.push(number)?;
+        push_digits(bytes, digits)?;
+    }
+    Ok(())
+}
+
+fn push_digits(bytes: &mut Vec<u8>, digits: &str) -> Result<(), Fail> {
+    for at in (0..digits.len()).step_by(2) {
+        bytes.push(u8::from_str_radix(digits.get(at..at + 2).ok_or("no bytes")?, 16)?)?;
     }
     Ok(())
 }
@@ -79,10 +105,22 @@ fn changed(alloc: Global, front: usize, behind: &str) -> Result<Vec<u8>, Fail> {
     Ok(bytes)
 }
 
+/// Says in a file that it is of version 2.
+fn put_second_version(bytes: &mut [u8]) {
+    if let Some(version) = bytes.get_mut(4) {
+        *version = 2;
+    }
+}
+
 /// Writes the file that a row asks for, where it has bytes.
 fn lay(rt: HostRuntime, change: &str) -> Result<(), Fail> {
+    let two = change.strip_prefix("two ");
+    let change = two.unwrap_or(change);
     let (front, behind) = change.split_once(" ").unwrap_or((change, ""));
-    let bytes = changed(rt.alloc(), front.parse()?, behind)?;
+    let mut bytes = changed(rt.alloc(), front.parse()?, behind)?;
+    if two.is_some() {
+        put_second_version(&mut bytes);
+    }
     if !bytes.is_empty() {
         fs::write(&rt, PATH, bytes.as_slice())?;
     }
@@ -146,11 +184,25 @@ fn played(rt: HostRuntime, row: &str) -> Result<(), Fail> {
     compared(row, got.as_str(), wanted)
 }
 
+/// Each row of a list of sentences, which fills the places of its second line.
+fn play_list(rt: HostRuntime, list: &str) -> Result<(), Fail> {
+    let (_, rows) = list.split_once(":\n").ok_or("a list without a label")?;
+    let (pattern, rows) = rows.split_once("\n").ok_or("a list without rows")?;
+    for row in rows.lines() {
+        let row = filled(rt.alloc(), pattern.trim(), row.trim())?;
+        played(rt, row.as_str())?;
+    }
+    Ok(())
+}
+
 #[test]
 fn audits_end_with_their_status(rt: HostRuntime) -> Result<(), Fail> {
     let _ = fs::remove_file(&rt, PATH);
     for row in ROWS.trim().lines() {
         played(rt, row.trim())?;
+    }
+    for list in LISTS.split("\n\n") {
+        play_list(rt, list)?;
     }
     Ok(())
 }

@@ -86,6 +86,29 @@ const ROWS: &str = "
     for 98 98 02 01 00000000 -> illegal 1
     for 98 98 01 00000000 00000000 -> illegal 1
 
+    a refusal with a choice, an end and another ask for which memory ran out, and a heap that is not full:
+    for 99 103 00 0101 100d 00 -> legal 2
+    for 99 103 00 0101 100d 02 01 00000000 -> illegal 2
+    for 99 103 00 0101 100d 01 00000000 00000000 -> illegal 2
+    for 99 103 00 0100 1001 00 -> illegal 2
+    for 99 103 00 2100 1001 00 -> legal 2
+    for 99 103 00 2100 1001 02 01 00000000 -> illegal 2
+    for 99 103 00 0200 00 1002 01 00000000 00000000 -> illegal 2
+
+    a collection that is due, and one that is not:
+    for 99 103 00 2000 00 00 00 -> illegal 2
+    for 99 103 00 2000 00 00 01 00000000 00000000 -> legal 2
+    for 99 103 00 2000 00 00 01 00000001 00000000 00000000 -> illegal 2
+    for 99 103 00 0900 00 00 0201 01 00000000 00000000 -> illegal 2
+    for 99 103 00 27 0201 00 -> illegal 2
+    for 99 103 00 27 0200 00 -> legal 2
+
+    a place for a resource, whichever it is, and the cells of a guard and its cleanable:
+    for 99 103 00 1600 0d ffffffff 02 02 00000001 0000000f -> legal 2
+    for 99 103 00 1600 0d 00000000 02 02 00000000 00000000 -> illegal 2
+    for 99 103 00 1600 0d 00000000 02 01 00000000 -> illegal 2
+    for 99 103 00 1600 0d 00000000 02 02 00000000 00000010 -> illegal 2
+
     a history without an entry:
     for 93 103 00 -> legal 0
 

@@ -7,9 +7,11 @@ use jlr_machine::copies::copy_ask;
 use std::alloc::{AllocError, Global};
 use std::test::Fail;
 
+mod held;
 mod replies;
 mod writing;
 
+use held::wrong_words;
 use jlr_words::{event_of, parts_of};
 use replies::reply_of;
 use writing::{answer_text, ask_text, with_resource};
@@ -93,7 +95,11 @@ fn events_are_their_asks(rt: HostRuntime) -> Result<(), Fail> {
 
 #[test]
 fn replies_are_their_answers(rt: HostRuntime) -> Result<(), Fail> {
-    are_told(rt.alloc(), REPLIES, Rows::Replies)
+    are_told(rt.alloc(), REPLIES, Rows::Replies)?;
+    match wrong_words(rt.alloc())? {
+        Some(row) => Err(Fail::new(row)),
+        None => Ok(()),
+    }
 }
 
 fn are_told(alloc: Global, rows: &str, of: Rows) -> Result<(), Fail> {

@@ -7,6 +7,8 @@ use std::io::{self, ErrorKind, Read, Write};
 pub(super) enum Failing {
     Never,
     First,
+    /// The first, since a signal interrupts it.
+    Interrupted,
     /// The one after all bytes were given.
     Last,
 }
@@ -70,12 +72,16 @@ impl Read for Pieced<'_> {
     fn read(&mut self, buf: &mut [u8]) -> io::Result<usize> {
         let fails = match self.failing {
             Failing::Never => false,
-            Failing::First => true,
+            Failing::First | Failing::Interrupted => true,
             Failing::Last => self.bytes.is_empty(),
         };
         if fails {
+            let is_interrupted = matches!(self.failing, Failing::Interrupted);
             // A read after one that failed does not fail.
             self.failing = Failing::Never;
+            if is_interrupted {
+                return Err(io::Error::from(ErrorKind::Interrupted));
+            }
             return Err(io::Error::from(ErrorKind::Other));
         }
         let count = self.next.min(self.bytes.len()).min(buf.len());

@@ -154,10 +154,11 @@ const LISTS: &str = "
 
 const FOLDER: &str = "jlr_fence_rows";
 
-// A device below the folder, what it opened, and what listens.
+// A device below the folder, the sockets of its own, what it opened, and what listens.
 #[derive(Drop)]
 struct Real<'a> {
     rt: HostRuntime,
+    own: &'a [Inode],
     device: Fenced<'a, RealDevice, SystemPlaces<'a>>,
     opened: Option<RealResource>,
     listener: Option<UnixListener>,
@@ -178,6 +179,7 @@ impl<'a> Stage for Real<'a> {
                 self.listener = Some(UnixListener::bind(&self.rt, path(words)).ok()?);
                 Some(Got::Truth(true))
             }
+            "everything" => self.lets_everything_through(),
             _ => on_device(
                 self.rt.alloc(),
                 &mut self.device,
@@ -189,7 +191,17 @@ impl<'a> Stage for Real<'a> {
     }
 }
 
-// `link` makes a link that says its first word at its second. The socket `own` is the program's.
+impl<'a> Real<'a> {
+    // A new device that is not below the folder.
+    fn lets_everything_through(&mut self) -> Option<Got> {
+        let places = SystemPlaces::new(self.rt, self.own);
+        self.device = Fenced::new(RealDevice::new(self.rt), places, Fence::Everything);
+        Some(Got::Truth(true))
+    }
+}
+
+// `link` makes a link that says its first word at its second. The socket `own` is the program's. `everything` makes a
+// device that lets every path through.
 const REAL: &str = "
     # files below the folder
     folder jlr_fence_rows/deep -> true
@@ -227,6 +239,18 @@ const REAL: &str = "
     connect ./own -> Err(Denied)
     connect deep/missing -> Err(NotFound)
     failed_opens -> 14
+
+    # where everything is let through links are followed, and one to a socket of its own is denied
+    everything -> true
+    connect jlr_fence_rows/own -> Err(Denied)
+    connect jlr_fence_rows/owned -> Err(Denied)
+    connect jlr_fence_rows/bent/../own -> Err(Denied)
+    failed_opens -> 3
+    connect jlr_fence_rows/bent/socket -> Ok(())
+    open_to_read jlr_fence_rows/bent/file -> Ok(())
+    read 4 -> (Ok(1), [7, 9, 9, 9])
+    open_to_read jlr_fence_rows/dangling -> Err(NotFound)
+    failed_opens -> 4
 ";
 
 fn play_real(rt: HostRuntime) -> Result<(), Fail> {
@@ -236,6 +260,7 @@ fn play_real(rt: HostRuntime) -> Result<(), Fail> {
     let places = SystemPlaces::new(rt, &own);
     let mut real = Real {
         rt,
+        own: &own,
         device: Fenced::new(RealDevice::new(rt), places, Fence::Below(FOLDER)),
         opened: None,
         listener: Some(listener),

@@ -1,14 +1,15 @@
 //! Files and a pair of sockets of the system, in a folder of their own.
 use super::{bytes, on_device, path};
 use crate::tests::below::calls::{Got, Stage, play};
+use crate::tests::below::words::parsed;
 use jlr_device::guarded::guarded_open;
 use jlr_device::real::{RealDevice, RealResource};
-use jlr_device::{Device, Mode};
+use jlr_device::{Device, Mode, retry};
 use jlr_types::Fault;
 use std::alloc::Global;
 use std::fs;
 use std::fs::Permissions;
-use std::io::{Read, Write};
+use std::io::{self, ErrorKind, Read, Write};
 use std::os::unix::fs::PermissionsExt;
 use std::os::unix::net::{UnixListener, UnixStream};
 use std::str::SplitWhitespace;
@@ -78,6 +79,58 @@ fn denied_if_at_all(device: &mut RealDevice, path: &str) -> Got {
     }
 }
 
+// What a signal interrupts so many times, and that then gives sevens, and takes all bytes.
+#[derive(Drop)]
+struct Interrupted {
+    times: u8,
+}
+
+impl Interrupted {
+    fn interrupts(&mut self) -> bool {
+        if self.times == 0 {
+            return false;
+        }
+        self.times = self.times.saturating_sub(1);
+        true
+    }
+}
+
+impl Read for Interrupted {
+    fn read(&mut self, buf: &mut [u8]) -> io::Result<usize> {
+        if self.interrupts() {
+            return Err(ErrorKind::Interrupted.into());
+        }
+        buf.fill(7);
+        Ok(buf.len())
+    }
+}
+
+impl Write for Interrupted {
+    fn write(&mut self, bytes: &[u8]) -> io::Result<usize> {
+        if self.interrupts() {
+            return Err(ErrorKind::Interrupted.into());
+        }
+        Ok(bytes.len())
+    }
+
+    fn flush(&mut self) -> io::Result<()> {
+        Ok(())
+    }
+}
+
+fn read_interrupted(words: &mut SplitWhitespace<'_>) -> Option<Got> {
+    let times = parsed(words)?;
+    let mut buf = [9u8; 4];
+    let count = retry::read(&mut Interrupted { times }, &mut buf[..3]).ok();
+    Some(Got::Read(count.ok_or(Fault::Other), buf))
+}
+
+fn write_interrupted(words: &mut SplitWhitespace<'_>) -> Option<Got> {
+    let times = parsed(words)?;
+    let count = retry::write(&mut Interrupted { times }, b"ab").ok();
+    Some(Got::Wrote(count.ok_or(Fault::Other)))
+}
+
 // A device, its resource, and the peer.
 #[derive(Drop)]
 struct Real {
@@ -94,6 +147,8 @@ impl Stage for Real {
             "failed_at_all" => Some(Got::Truth(self.device.failures() > 0)),
             "forbid" => forbid(self.rt, path(words)),
             "denied_if_at_all" => Some(denied_if_at_all(&mut self.device, path(words))),
+            "read_interrupted" => read_interrupted(words),
+            "write_interrupted" => write_interrupted(words),
             _ => self.with_peer(name, words),
         }
     }
@@ -127,9 +182,11 @@ impl Real {
     }
 }
 
-// `new` makes a device, and empties the folder. A file that is open for reading takes nothing; opened for writing again
-// it loses what it held. To the superuser the system denies to read the second file that is denied. After the end of a
-// socket the peer sees the end. The last path is longer than the address of a socket may be.
+// `new` makes a device, and empties the folder. A file that is open for reading takes nothing, and one for writing
+// gives nothing; opened for writing again it loses what it held. A device of the system cannot be synced. To the
+// superuser the system denies to read the second file that is denied. After the end of a socket the peer sees the end.
+// The last path is longer than the address of a socket may be. A call that is interrupted is made again:
+// `read_interrupted` is one of three bytes, and `write_interrupted` one of two, after so many interruptions.
 const LISTS: &str = "
     # a file is written and read back
     new -> true
@@ -149,6 +206,30 @@ const LISTS: &str = "
     read 3 -> (Ok(0), [9, 9, 9, 9])
     finish -> Finished { outcome: Ok(()), failures: 0 }
     failed_opens -> 0
+
+    # a file that is open for writing gives nothing
+    new -> true
+    open_to_write jlr_device_rows/file -> Ok(())
+    write 7 -> Ok(1)
+    read 3 -> (Err(Other), [9, 9, 9, 9])
+    finish -> Finished { outcome: Ok(()), failures: 1 }
+    failed_opens -> 0
+
+    # what cannot be synced ends with a fault
+    new -> true
+    open_to_write /dev/null -> Ok(())
+    write 7 8 -> Ok(2)
+    finish -> Finished { outcome: Err(Other), failures: 1 }
+    failed_opens -> 0
+
+    # a call that is interrupted is made again
+    new -> true
+    read_interrupted 0 -> (Ok(3), [7, 7, 7, 9])
+    read_interrupted 1 -> (Ok(3), [7, 7, 7, 9])
+    read_interrupted 200 -> (Ok(3), [7, 7, 7, 9])
+    write_interrupted 0 -> Ok(2)
+    write_interrupted 1 -> Ok(2)
+    write_interrupted 200 -> Ok(2)
 
     # what cannot be opened is a fault
     new -> true

@@ -1,5 +1,7 @@
 //! Command lines: each row is a line, an arrow, and what it asks for.
-use jlr_command_line::arguments::{AuditOrder, Order, RunOrder, Service, StatsOrder, order_of};
+use jlr_command_line::arguments::{
+    AuditOrder, Order, Reach, RunOrder, Service, StatsOrder, order_of,
+};
 use jlr_command_line::fault::ProgramFault;
 use jlr_types::Limits;
 use std::alloc::{AllocError, Global};
@@ -43,23 +45,55 @@ fn told(alloc: Global, order: Order<'_>) -> Result<String, Fail> {
     }
 }
 
-/// Of a session the cells, the files and sockets, the soft age and the length of the trace, and where its history is
-/// saved.
+/// Of a session the cells, the files and sockets, the soft age and the length of the trace, what it may open, and where
+/// its history is saved.
 fn told_run(alloc: Global, order: RunOrder<'_>) -> Result<String, Fail> {
     let heap = numbers(alloc, &order.limits)?;
+    let reach = reach(alloc, order.reach)?;
     let end = ending(alloc, order.save)?;
-    Ok(format!(in alloc; "{heap}{end}")?)
+    Ok(format!(in alloc; "{heap}{reach}{end}")?)
 }
 
-/// What a server serves, and of its heap what is told of a session's.
+/// What a server serves, of its heap what is told of a session's, and where it is asked to end.
 fn told_service(alloc: Global, service: Service<'_>) -> Result<String, Fail> {
-    let (total, socket) = (service.total, service.socket);
+    let (total, socket, mode) = (service.total, service.socket, mode_of(service.mode));
     let (sessions, budget) = (service.limits.sessions, service.limits.budget);
     let heap = numbers(alloc, &service.limits)?;
+    let reach = reach(alloc, service.reach)?;
+    let control = control(alloc, service.control, service.control_mode)?;
     let end = ending(alloc, service.save)?;
     Ok(format!(in alloc;
-        "serve {total} on {socket}, {sessions} at once, {budget} a piece, {heap}{end}"
+        "serve {total} on {socket}{mode}, {sessions} at once, {budget} a piece, {heap}{reach}{control}{end}"
     )?)
+}
+
+/// What may be opened, where that is not all.
+fn reach(alloc: Global, reach: Reach<'_>) -> Result<String, Fail> {
+    match reach {
+        Reach::Everything => Ok(String::new(alloc)),
+        Reach::Below(folder) => Ok(format!(in alloc; ", below {folder}")?),
+        Reach::Nothing => Ok(owned(alloc, ", no files")?),
+    }
+}
+
+/// The rights of the socket, if they are given.
+fn mode_of(mode: Option<u32>) -> &'static str {
+    match mode {
+        None => "",
+        Some(0o600) => " by 600",
+        Some(0o660) => " by 660",
+        Some(0o666) => " by 666",
+        Some(_) => " by others",
+    }
+}
+
+/// Where the end is asked for, and by which rights, if it can be.
+fn control(alloc: Global, control: Option<&str>, mode: u32) -> Result<String, Fail> {
+    let mode = mode_of(Some(mode));
+    match control {
+        Some(control) => Ok(format!(in alloc; ", asked at {control}{mode}")?),
+        None => Ok(String::new(alloc)),
+    }
 }
 
 /// What is audited.
@@ -145,6 +179,30 @@ const COMMANDS: &str = "
     refheap serve --budget 4096 --socket s --total 1 -> serve 1 on s, 4 at once, 4096 a piece, 1024 16 4 10000
 ";
 
+// What may be opened: where nothing may be, no folder is looked at.
+const REACHES: &str = "
+    refheap run --files d -> 1024 16 4 10000, below d
+    refheap run --no-files -> 1024 16 4 10000, no files
+    refheap run --files d --no-files -> 1024 16 4 10000, no files
+    refheap run --no-files --files d -> 1024 16 4 10000, no files
+    refheap run --files d --save history --cells 16 -> 16 16 4 10000, below d, saved to history
+    refheap serve --socket s --total 1 --files d -> serve 1 on s, 4 at once, 64 a piece, 1024 16 4 10000, below d
+    refheap serve --socket s --total 1 --no-files -> serve 1 on s, 4 at once, 64 a piece, 1024 16 4 10000, no files
+    refheap serve --no-files --files d --socket s --total 1 -> serve 1 on s, 4 at once, 64 a piece, 1024 16 4 10000, no files
+    refheap serve --files d --socket s --no-files --total 1 -> serve 1 on s, 4 at once, 64 a piece, 1024 16 4 10000, no files
+";
+
+// Two sockets, each with rights of its own.
+const SOCKETS: &str = "
+    refheap serve --socket s --total 1 --mode 600 -> serve 1 on s by 600, 4 at once, 64 a piece, 1024 16 4 10000
+    refheap serve --socket s --total 1 --mode 660 -> serve 1 on s by 660, 4 at once, 64 a piece, 1024 16 4 10000
+    refheap serve --socket s --total 1 --mode 666 -> serve 1 on s by 666, 4 at once, 64 a piece, 1024 16 4 10000
+    refheap serve --socket s --total 1 --control c -> serve 1 on s, 4 at once, 64 a piece, 1024 16 4 10000, asked at c by 600
+    refheap serve --socket s --total 1 --control c --control-mode 660 -> serve 1 on s, 4 at once, 64 a piece, 1024 16 4 10000, asked at c by 660
+    refheap serve --control-mode 666 --control c --mode 600 --socket s --total 1 -> serve 1 on s by 600, 4 at once, 64 a piece, 1024 16 4 10000, asked at c by 666
+    refheap serve --socket s --total 1 --mode 660 --control c --save h --no-files -> serve 1 on s by 660, 4 at once, 64 a piece, 1024 16 4 10000, no files, asked at c by 600, saved to h
+";
+
 // A bad command line has status 2.
 const WRONG: &str = "
     refheap -> status 2
@@ -204,10 +262,26 @@ const WRONG: &str = "
     refheap serve --socket s --total 1 --budget +1 -> status 2
     refheap serve --socket s --total 1 --budget -> status 2
     refheap run --budget 64 -> status 2
+    refheap run --files -> status 2
+    refheap run --files a --files b -> status 2
+    refheap run --no-files d -> status 2
+    refheap run --mode 600 -> status 2
+    refheap run --control c -> status 2
+    refheap serve --socket s --total 1 --mode -> status 2
+    refheap serve --socket s --total 1 --mode 644 -> status 2
+    refheap serve --socket s --total 1 --mode 0600 -> status 2
+    refheap serve --socket s --total 1 --control -> status 2
+    refheap serve --socket s --total 1 --control c --control-mode 777 -> status 2
 ";
 
 #[test]
 fn command_lines(rt: HostRuntime) -> Result<(), Fail> {
     play(rt.alloc(), "each option is its own limit", COMMANDS)?;
+    play(
+        rt.alloc(),
+        "no files are no files, whatever the folder",
+        REACHES,
+    )?;
+    play(rt.alloc(), "each socket has its own rights", SOCKETS)?;
     play(rt.alloc(), "a bad command line has status 2", WRONG)
 }

@@ -95,9 +95,10 @@ pub(super) fn are_counted(writes: usize, bytes: usize, wanted: &str) -> bool {
     }
 }
 
-/// Fails at its first write, and takes all later ones.
+/// Fails at its first write, perhaps since a signal interrupts it, and takes all later ones.
 #[derive(Drop)]
 struct FailsOnce {
+    is_interrupted: bool,
     failed: bool,
     taken: usize,
 }
@@ -106,6 +107,9 @@ impl Write for FailsOnce {
     fn write(&mut self, buf: &[u8]) -> io::Result<usize> {
         if !self.failed {
             self.failed = true;
+            if self.is_interrupted {
+                return Err(io::Error::from(io::ErrorKind::Interrupted));
+            }
             return Err(io::Error::from(io::ErrorKind::Other));
         }
         self.taken = buf.len();
@@ -117,22 +121,26 @@ impl Write for FailsOnce {
     }
 }
 
-// Whether nothing is written after a write that failed.
-fn is_not_tried_again() -> bool {
+// Whether a reply went out whose first write failed, or was interrupted, and how many bytes a later one took.
+fn written_after(is_interrupted: bool) -> (bool, usize) {
     let mut writer = FailsOnce {
+        is_interrupted,
         failed: false,
         taken: 0,
     };
-    let failed = write_reply(&Answer::Done, &mut writer).is_err();
-    failed && writer.failed && writer.taken == 0
+    let well = write_reply(&Answer::Done, &mut writer).is_ok();
+    (well && writer.failed, writer.taken)
 }
 
 #[test]
 fn replies_go_out_as_far_as_the_writer_takes_them(rt: HostRuntime) -> Result<(), Fail> {
     play(rt.alloc(), Topic::Fronts, FRONTS)?;
     play(rt.alloc(), Topic::Writes, WRITES)?;
-    if is_not_tried_again() {
-        return Ok(());
+    if written_after(false) != (false, 0) {
+        return Err(Fail::from("a write that failed is tried again"));
     }
-    Err(Fail::from("a write that failed is tried again"))
+    if written_after(true) != (true, 3) {
+        return Err(Fail::from("a write that was interrupted is not made again"));
+    }
+    Ok(())
 }
