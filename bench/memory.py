@@ -5,15 +5,19 @@
 
 A chain fills the heap; then so many `gc` follow, each an entry with a collection that keeps all, and the memory of the program is read
 from /proc before and after. The room of the trace was touched before by the entries that filled the heap, so what is added is what the
-entries have beside their places. The same with `stat`, on an empty heap, whose entries have nothing beside their places.
+entries have beside their places. The same with `stat`, on an empty heap, whose entries have nothing beside their places. Ends with status 1
+where an entry of `gc` takes more than 16,384 bytes at 65,536 cells, which is two bits a cell, or one of `stat` more than 80.
 """
 import argparse
 import os
+import sys
 
 from collect import Builder, chain
 from session import Session
 
 HERE = os.path.dirname(os.path.abspath(__file__))
+# How many bytes an entry may take: one of `gc` at 65,536 cells, and one of `stat`.
+MOST_GC, MOST_STAT = 16_384, 80
 
 
 def grown(session, line, count):
@@ -41,13 +45,19 @@ def main():
     added = grown(session, "gc", options.entries)
     whole = session.memory()
     session.close()
+    wrong = options.cells == 65_536 and added > MOST_GC * options.entries
     print(f"gc, {options.cells} cells, all taken: {options.entries} entries add {added / 1e6:.1f} MB, {added / options.entries:.0f} bytes each; the program has {whole / 1e6:.1f} MB")
 
     session = Session(options.program, 1024, ["--trace", "1000000"])
-    added = grown(session, "stat", 100 * options.entries - 1000)
+    count = 100 * options.entries - 1000
+    added = grown(session, "stat", count)
     session.close()
-    print(f"stat: {100 * options.entries - 1000} entries add {added / 1e6:.1f} MB, {added / (100 * options.entries - 1000):.0f} bytes each")
+    wrong = added > MOST_STAT * count or wrong
+    print(f"stat: {count} entries add {added / 1e6:.1f} MB, {added / count:.0f} bytes each")
+    if wrong:
+        print(f"WRONG   an entry of gc may take {MOST_GC} bytes at 65,536 cells, and one of stat {MOST_STAT}")
+    return 1 if wrong else 0
 
 
 if __name__ == "__main__":
-    main()
+    sys.exit(main())

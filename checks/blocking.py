@@ -5,12 +5,14 @@
 
 A read of a peer or a FIFO that says nothing, and a write to one that is full, end with their client, and its seat is free within a second; descriptors and threads
 stay as many. A client that only sends no more has its answer. A FIFO without another end is opened at once, and a socket where too many wait is not joined.
+A sync that takes three seconds (a library that is loaded before the C library, `synced.c`, makes it so), of the cleaner or of a `close`, holds no other client up.
 """
 import fcntl
 import os
 import random
 import shutil
 import socket
+import subprocess
 import sys
 import tempfile
 import threading
@@ -19,8 +21,11 @@ import time
 import peers
 from peers import connected, is_served, say
 
+HERE = os.path.dirname(os.path.abspath(__file__))
 SEATS = 2
 SLOWEST = 1.0
+# For how many seconds a sync lasts that is slow.
+SYNC = 3.0
 BYTES = "00" * 200
 
 
@@ -179,12 +184,83 @@ def at_once(server, place):
     return replies == ["= 1", "end", "= 2", "wrote 1", "ok", "ok", "fault other"] and time.time() - start < SLOWEST
 
 
+def slow_server(program, folder):
+    """A server whose syncs are slow."""
+    library = os.path.join(folder, "synced.so")
+    subprocess.run([os.environ.get("CC", "cc"), "-O2", "-shared", "-fPIC", "-o", library, os.path.join(HERE, "synced.c")], check=True)
+    more = {"LD_PRELOAD": library, "SYNC_DELAY": str(int(SYNC * 1000))}
+    os.environ.update(more)
+    try:
+        return peers.Server(program, SEATS, "--sessions", str(SEATS))
+    finally:
+        for name in more:
+            del os.environ[name]
+
+
+def jobs(lines):
+    """How many actions were taken up, and how many of them have ended, as `stat` counts them."""
+    taken, well, failed = map(int, lines.ask("stat").split()[3:])
+    return taken, well + failed
+
+
+def is_answered(lines, goes_on):
+    """Whether a client is answered at once, again and again, for most of a sync: as long as this holds."""
+    begun, slowest, asked = time.monotonic(), 0.0, 0
+    while goes_on() and time.monotonic() - begun < 10 * SYNC:
+        start = time.monotonic()
+        answered = lines.ask("same 0 0") == "yes"
+        slowest, asked = max(slowest, time.monotonic() - start), asked + 1
+        if not answered:
+            return False
+        time.sleep(0.01)
+    took = time.monotonic() - begun
+    if not (slowest < SLOWEST and asked > 20 and took > SYNC / 2):
+        print(f"        it was answered {asked} times in {took:.1f} s, once after {slowest:.1f} s")
+        return False
+    return True
+
+
+def slow_sync(program, folder):
+    """Whether a client is answered while the cleaner closes the file of another one, which nobody reaches any more, and while that one closes a file itself."""
+    server = slow_server(program, folder)
+    try:
+        one, other = Lines(server), Lines(server)
+        path = os.path.join(folder, "lost")
+        assert other.ask("same 0 0") == "yes"
+        assert [one.ask(line) for line in (f"open w {path}", "drop 1", "gc")] == ["= 1", "ok", "ok"]
+        until = time.monotonic() + SLOWEST
+        while jobs(other) != (1, 0) and time.monotonic() < until:
+            time.sleep(0.01)
+        right = say("a sync of the cleaner holds no other client up", is_answered(other, lambda: jobs(other) == (1, 0)) and jobs(other) == (1, 1))
+        assert one.ask(f"open w {path}") == "= 1"
+        one.send("close 1")
+        one.stream.setblocking(False)
+        right = say("nor does the sync of a close", is_answered(other, lambda: not has_come(one))) and right
+        one.stream.settimeout(10)
+        right = say("which is answered in the end", one.reply() == "ok" and jobs(other) == (2, 2)) and right
+        one.close()
+        other.close()
+        status, served, _ = server.end()
+        return say("their server ended by itself", (status, served) == (0, SEATS)) and right
+    finally:
+        server.process.kill()
+
+
+def has_come(lines):
+    """Whether a reply is there to be read."""
+    try:
+        return bool(lines.stream.recv(1, socket.MSG_PEEK))
+    except BlockingIOError:
+        return False
+
+
 def main(program, rounds):
     place = Place()
     total = 1 + 2 * rounds * len(CALLS) + 2
     server = peers.Server(program, total, "--sessions", str(SEATS), "--resources", "64")
     try:
         witness = server.client()
+        witness.gc()  # once it is answered it has its seat, and all threads are there
         right = True
         for call in CALLS:
             name = call.__name__.replace("_", " ")
@@ -193,7 +269,8 @@ def main(program, rounds):
         right = say("a FIFO without another end and a crowded socket do not wait", at_once(server, place)) and right
         witness.close_session()
         status, served, _ = server.end()
-        return say("the server ended by itself, after all clients", status == 0 and served == total) and right
+        right = say("the server ended by itself, after all clients", status == 0 and served == total) and right
+        return slow_sync(program, place.folder) and right
     finally:
         server.process.kill()
         shutil.rmtree(place.folder)

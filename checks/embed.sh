@@ -73,11 +73,11 @@ for name in page cache lists; do
     tried "$name" "$room/$name"
     if cc -std=c99 -g -fsanitize=address,undefined -fno-sanitize-recover=all -I "$folder" "$source" "$archive" -o "$room/$name.asan" 2> /dev/null; then
         tried "$name" "$room/$name.asan"
-        echo "$name: well under the sanitizers"
+        echo "ok      $name: well under the sanitizers"
     fi
     if command -v valgrind > /dev/null; then
         tried "$name" valgrind -q --error-exitcode=9 --leak-check=full --errors-for-leak-kinds=all "$room/$name"
-        echo "$name: well under valgrind"
+        echo "ok      $name: well under valgrind"
     fi
 done
 
@@ -85,6 +85,6 @@ export PYTHONDONTWRITEBYTECODE=1
 printf "held: [] 0\ndropped: ['died'] 0 True\nread: b'' open: 1\nforgotten: open: 0\nrefused: deref: no handle\n" > "$room/embed.wanted"
 python3 "$here/../examples/embed.py" "$shared" > "$room/told"
 cmp "$room/told" "$room/embed.wanted"
-echo "embed.py: well"
+echo "ok      embed.py: well"
 python3 "$here/embed_rows.py" "$shared" ${program:+"$program"}
 python3 "$here/embed_fuzz.py" "$shared" "$calls"

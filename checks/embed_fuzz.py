@@ -4,6 +4,7 @@
 
 The oracle holds a machine as Python objects: it knows which refusal comes first, which handle is free, what a collection keeps by the age of soft references, and
 what goes where after it. It does not know in which order the references of one collection come to their queue, so it asks then (by `same`) which one came.
+Before that a heap is opened with each limit out of its range.
 """
 import os
 import random
@@ -15,6 +16,7 @@ import embed  # noqa: E402
 
 MEMORY, FULL, NO_HANDLE, HANDLES_FULL, WRONG_KIND, NO_FIELD, WRONG_TYPE, NULL, NO_NAME, NAMES_FULL, BUSY, CLOSED = range(1, 13)
 NO_SESSION, NOT_OUT, WOULD_WAIT, RESOURCES_FULL, NOT_OPEN, RANGE, IDLE = 13, 17, 18, 19, 32, 33, 34
+BAD_CELLS, BAD_SESSIONS, BAD_RESOURCES, BAD_SOFT_AGE = 35, 36, 37, 38
 
 
 class Refusal(Exception):
@@ -741,8 +743,37 @@ STEPS = {"new": 12, "array": 2, "queue": 3, "cleaner": 2, "dup": 2, "drop": 22, 
          "bind": 1, "find": 1, "unbind": 1, "no_name": 0.3, "stat": 2, "name": 1, "note": 1, "failure": 1, "leave": 0.3, "join": 0.6}
 
 
+# Limits (cells, sessions, resources, soft age) and what opens a heap of them, or the first of them that is out of its range.
+OPENINGS = {
+    (16, 1, 1, 0): 0, (65_536, 64, 256, 1_000): 0,
+    (15, 1, 1, 0): BAD_CELLS, (65_537, 1, 1, 0): BAD_CELLS, (16, 0, 1, 0): BAD_SESSIONS, (16, 65, 1, 0): BAD_SESSIONS,
+    (16, 1, 0, 0): BAD_RESOURCES, (16, 1, 257, 0): BAD_RESOURCES, (16, 1, 1, 1_001): BAD_SOFT_AGE, (0, 0, 0, 1_001): BAD_CELLS,
+    (16, 2**32 - 1, 0, 1_001): BAD_SESSIONS, (16, 1, 0, 1_001): BAD_RESOURCES, (16, 1, 1, 2**32 - 1): BAD_SOFT_AGE, (2**32 - 1, 1, 1, 0): BAD_CELLS,
+}
+
+
+def wrong_openings(library):
+    """Openings that are answered otherwise. One that is refused leaves a closed heap closed, and an open one as it is."""
+    for limits, due in OPENINGS.items():
+        heap = embed.Struct()
+        told = library.refheap_open(heap, *limits), library.refheap_join(heap, 0)
+        if told != (due, NOT_OPEN if due else 0):
+            yield f"an opening with {limits}: {told[0]}, and not {due}; then a join: {told[1]}"
+        library.refheap_close(heap)
+        kept = library.refheap_open(heap, 16, 1, 1, 0), library.refheap_join(heap, 0)
+        told = library.refheap_open(heap, *limits), library.refheap_join(heap, 0)
+        if kept != (0, 0) or told != (due, NO_SESSION if due else 0):
+            yield f"an opening of an open heap with {limits}: {told[0]}, and not {due}; then a join: {told[1]}"
+        library.refheap_close(heap)
+
+
 def main():
     library = embed.load(sys.argv[1])
+    found = list(wrong_openings(library))
+    if found:
+        print("\n".join(found))
+        return 1
+    print(f"ok      {len(OPENINGS)} openings: each limit that is out of its range is told")
     calls, seed = int(sys.argv[2]) if len(sys.argv) > 2 else 1_000_000, int(sys.argv[3]) if len(sys.argv) > 3 else 1
     done = refused = heaps = 0
     while done < calls:
@@ -758,7 +789,7 @@ def main():
         if library.refheap_gc(fuzz.heap, 0) != NOT_OPEN:
             print("a closed heap collects")
             return 1
-    print(f"{done} calls on {heaps} heaps, {refused} refused: the oracle agrees")
+    print(f"ok      {done} calls on {heaps} heaps, {refused} refused: the oracle agrees")
     return 0
 
 

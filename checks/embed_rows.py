@@ -130,7 +130,7 @@ def play_rows(library):
         if told not in wanted:
             wrong += 1
             print("row:", row, "\n  told:", "; ".join(told), "\n  wanted:", "; ".join(wanted[0]))
-    print(f"{played} worked sessions, {answers} answers, {wrong} wrong; {left_out} of files left out")
+    print("WRONG  " if wrong else "ok     ", f"{played} worked sessions, {answers} answers, {wrong} wrong; {left_out} of files left out")
     return wrong
 
 
@@ -163,7 +163,7 @@ def play_random(library, program, sessions=40, count=1500):
                 wrong += 1
                 print(f"seed {seed}: {command}: the program {by_program}, the call {by_call}")
                 break
-    print(f"{sessions} random sessions, {answers} answers, {refused} of them refusals, {wrong} sessions differ from refheap run")
+    print("WRONG  " if wrong else "ok     ", f"{sessions} random sessions, {answers} answers, {refused} of them refusals, {wrong} sessions differ from refheap run")
     return wrong
 
 

@@ -1,5 +1,5 @@
 #!/usr/bin/env bash
-# Tries each way in which `refheap run` and `refheap serve` end: the exit status, and what goes to the standard error.
+# Tries each way in which `refheap run`, `refheap serve` and `refheap client` end: the exit status, and what goes to the standard error.
 # checks/ends.sh [PROGRAM]
 set -u
 here=$(cd "$(dirname "$0")" && pwd)
@@ -122,6 +122,38 @@ check "a server with a mode where a file is" 1 "refheap: cannot listen on $folde
 "$program" serve --socket "$socket" --control "$folder/file" --total 1 2>"$errors"
 check "a server whose socket of control is a file" 1 "refheap: cannot listen on $folder/file"$'\n'"$in_use" $?
 gone "a server whose socket of control is a file"
+
+# clients: a server of clients that cannot write what they are told, or cannot read what they are to send
+control=$folder/control
+"$program" serve --socket "$socket" --control "$control" --total 9 --sessions 1 >/dev/null 2>"$folder/said" &
+server=$!
+for _ in {1..1000}; do
+    [ -e "$control" ] && break
+    sleep 0.01
+done
+printf 'new -\n' | timeout 60 "$program" client "$socket" >/dev/full 2>"$errors"
+check "a client whose output is full" 1 "refheap: write failed" $?
+printf 'new -\n' | timeout 60 "$program" client "$socket" >&- 2>"$errors"
+check "a client whose output is closed" 1 "refheap: write failed" $?
+timeout 60 "$program" client "$socket" </ >/dev/null 2>"$errors"
+check "a client whose input is a directory" 1 "refheap: read failed" $?
+timeout 60 "$program" client "$socket" <&- >/dev/null 2>"$errors"
+check "a client whose input is closed" 1 "refheap: read failed" $?
+printf 'new -\nbye\n' | timeout 60 "$program" client "$socket" >"$folder/told" 2>"$errors"
+check "a client after those" 0 "" $?
+if [ "$(cat "$folder/told")" != "= 1
+ok" ]; then
+    echo "WRONG   a client after those was told '$(cat "$folder/told")'"
+    failed=1
+fi
+timeout 60 "$program" stop "$control" 2>"$errors"
+check "the stop of their server" 0 "" $?
+wait "$server"
+status=$?
+cp "$folder/said" "$errors"
+check "their server" 0 "" $status
+gone "their server"
+
 "$program" run --save "$folder/history" </dev/null >/dev/null
 for words in audit stats; do
     "$program" "$words" "$folder/history" >/dev/full 2>"$errors"

@@ -4,6 +4,7 @@
     checks/environment.py PROGRAM
 
 As root it drops its rights to those of nobody where rights matter, and mounts a small file system for a full disk; without root those cases are left out.
+What does not end within two minutes is wrong.
 """
 import os
 import resource
@@ -37,7 +38,10 @@ class Checks(lines.Checks):
         os.chmod(self.folder, 0o777)
 
     def run(self, words, text="", before=None):
-        ended = subprocess.run([self.program, *words], input=text.encode(), capture_output=True, cwd=self.folder, preexec_fn=before, timeout=120)
+        try:
+            ended = subprocess.run([self.program, *words], input=text.encode(), capture_output=True, cwd=self.folder, preexec_fn=before, timeout=120)
+        except subprocess.TimeoutExpired as late:
+            return "it does not end", late.stdout or b"", late.stderr or b""
         return ended.returncode, ended.stdout, ended.stderr
 
     def session(self, name, lines, before=None):
@@ -84,6 +88,8 @@ def pipes(checks):
     checks.session("a FIFO whose other end nobody has, one end after the other", [
         ("open r fifo", "= 1"), ("read 1 3", "end"), ("open w fifo", "= 2"), ("write 2 61", "wrote 1"), ("read 1 3", "data 61"), ("close 1", "fault other"),
         ("write 2 61", "fault other")])
+    os.symlink("fifo", checks.path("to_fifo"))
+    checks.session("a link to a FIFO whose other end nobody has", [("open r to_fifo", "= 1"), ("read 1 3", "end")])
     writer = subprocess.Popen(["sh", "-c", f"printf abc > {checks.path('fifo')}"])
     time.sleep(0.3)  # by then it waits for a reader: an open that finds no writer does not wait for one
     checks.session("a FIFO whose writer goes", [
@@ -100,6 +106,10 @@ def pipes(checks):
 
     replies = [ask("connect peer")]
     peer, _ = listener.accept()
+    process.stdin.write(b"read 1 5\n")
+    time.sleep(0.3)  # by then it waits in the read
+    peer.sendall(b"abc")
+    checks.said("a socket whose peer says something after a while", (replies, process.stdout.readline()), (["= 1"], b"data 616263\n"))
     peer.close()
     replies += [ask("read 1 5"), ask("write 1 6162"), ask("close 1"), ask("bye")]
     checks.said("a socket whose peer goes", (replies, process.wait()), (["= 1", "end", "fault other", "ok", "ok"], 0))
@@ -122,6 +132,9 @@ def rights(checks):
     checks.session("a file and a folder without rights", [
         ("open r closed", "fault denied"), ("open w closed", "fault denied"), ("open w locked/file", "fault denied"), ("connect locked/peer", "fault denied")],
         as_nobody)
+    os.mkfifo(checks.path("half"))
+    os.chmod(checks.path("half"), 0o444)
+    checks.session("a FIFO that may only be read", [("open r half", "fault denied")], as_nobody)
     wanted = (1, b"", f"refheap: cannot listen on {checks.path('locked')}/s\n".encode() + DENIED)
     checks.said("a server in a folder without rights", checks.run(["serve", "--socket", checks.path("locked") + "/s", "--total", "1"], "", as_nobody), wanted)
     wanted = (1, b"", b"refheap: cannot read closed\n" + DENIED)
@@ -162,10 +175,49 @@ def servers(checks):
                 (1, f"refheap: cannot listen on {far}\n".encode() + TOO_LONG))
 
 
-# The head of a history with one entry, which tells 67,108,864 notes.
-LARGE_ENTRY = bytes.fromhex(
-    "4a4c5254 02 00000010 01 0010 0000000000000000 00000000 00" + "00000000" * 7 + "0000000000000001" + "00" * 24 + "0000000000000001" + "00 2200 08 04000000"
-)
+def few_files(checks):
+    """A server says at its start how many files may have to be open at once, where fewer may be: ten of its own, three for each client, and the resources."""
+    for most, words, needed in (
+        (20, [], 38), (37, [], 38), (38, [], None), (1024, [], None),
+        (20, ["--sessions", "2", "--resources", "8"], 24), (24, ["--sessions", "2", "--resources", "8"], None),
+    ):
+        path = checks.path("heap")
+        server = subprocess.Popen([checks.program, "serve", "--socket", path, "--total", "1", *words], stdout=subprocess.PIPE, stderr=subprocess.PIPE,
+                                  preexec_fn=limited(resource.RLIMIT_NOFILE, most))
+        try:
+            replies, said = served(path), server.communicate(timeout=120)[1]
+        finally:
+            server.kill()
+        due = f"refheap: {needed} files may have to be open at once, and {most} may be: see ulimit -n\n".encode() if needed else b""
+        name = " ".join(["a server that may have", str(most), "files open", *words]) + ", which " + ("says so" if needed else "says nothing of it")
+        checks.said(name, (replies, server.returncode, said), (b"ok\n", 0, due))
+
+
+def served(path):
+    """What a client is told that says bye, once somebody listens there."""
+    for _ in range(1000):
+        with socket.socket(socket.AF_UNIX) as stream:
+            stream.settimeout(60)
+            try:
+                stream.connect(path)
+            except (FileNotFoundError, ConnectionRefusedError):
+                time.sleep(0.01)
+                continue
+            stream.sendall(b"bye\n")
+            return stream.makefile("rb").read()
+    return b""
+
+
+def front(entries):
+    """The front of a history of so many entries, in version 2, from an empty heap of 16 cells."""
+    return bytes.fromhex("4a4c5254 02 00000010 01 0010 0000000000000000 00000000 00" + "00000000" * 7 + "0000000000000001" + "00" * 24) + entries.to_bytes(8, "big")
+
+
+# One entry that tells 67,108,864 notes.
+LARGE_ENTRY = front(1) + bytes.fromhex("00 2200 08 04000000")
+# An entry that is legal there, of 208 bytes: the end of a read by a mutator that has not joined, refused 13.
+REFUSED_ENTRY = bytes.fromhex("00 1900 00 c8" + "00" * 200 + "100d 00")
+LONG = 500_000
 
 
 def audits(checks):
@@ -177,14 +229,21 @@ def audits(checks):
     checks.said("the audit of a FIFO", checks.run(["audit", "fifo"]), (0, b"legal 3 version 2\n", b""))
     writer.wait()
     history = open(checks.path("history"), "rb").read()
-    for name, front, due in (
+    for name, beginning, due in (
         ("the audit of a large file in little memory", history[:8], (4, b"", b"refheap: bad entry 0\n")),
         ("the audit of an entry that memory does not hold", LARGE_ENTRY, (5, b"", NO_MEMORY[1])),
     ):
         with open(checks.path("large"), "wb") as file:
-            file.write(front)
+            file.write(beginning)
             file.truncate(300_000_000)
         checks.said(name, checks.run(["audit", "large"], "", limited(resource.RLIMIT_AS, 60_000_000)), due)
+    with open(checks.path("large"), "wb") as file:
+        file.write(front(LONG))
+        for _ in range(LONG // 1000):
+            file.write(REFUSED_ENTRY * 1000)
+    checks.said(f"the audit of {LONG} entries, 104 MB, in little memory", checks.run(["audit", "large"], "", limited(resource.RLIMIT_AS, 60_000_000)),
+                (0, f"legal {LONG} version 2\n".encode(), b""))
+    os.remove(checks.path("large"))
 
 
 def signals(checks):
@@ -205,7 +264,7 @@ def signals(checks):
 def main():
     checks = Checks(os.path.abspath(sys.argv[1]))
     try:
-        for part in (files, pipes, limits, servers, audits, signals):
+        for part in (files, pipes, limits, servers, few_files, audits, signals):
             part(checks)
         if os.geteuid() == 0:
             rights(checks)

@@ -4,10 +4,11 @@
     checks/gone.py PROGRAM [--clients N] [--stops N]
 
 Clients that vanish in `remove`, at random moments: each gives its seat back and takes no reference, so a death goes to the next who waits; a
-client that is only half-closed is still answered; descriptors, threads and memory stay flat over N of them (2,000). What a client left
+client that is only half-closed is still answered; descriptors, threads and memory stay flat over N of them (2,000); where all of 64 clients
+vanish so, each seat is free again. What a client left
 open is closed on a quiet server, and `open` finds room again. A server that is asked to end answers `! 18` to who waits and all that was
-sent, saves, removes its files and only then lets go who asked: with 64 clients, while it starts, while its save
-fails, asked twice, with its socket of control deleted, and N times at random moments (40). A socket's file of a
+sent, saves, removes its files and only then lets go who asked, and is gone then: with 64 clients, while it starts, while its save
+fails, asked twice, killed meanwhile, with its socket of control deleted, and N times at random moments (40). A socket's file of a
 server that was killed is replaced, one of a server that lives is left alone, and so is a file that is not the server's own at its end.
 """
 import argparse
@@ -99,6 +100,15 @@ def wait_until(holds, seconds=TIMEOUT):
         time.sleep(0.005)
 
 
+def is_gone(number):
+    """Whether a process has ended, also where nobody has waited for it yet."""
+    try:
+        with open(f"/proc/{number}/stat", encoding="ascii") as file:
+            return file.read().rpartition(")")[2].split()[0] in ("Z", "X")
+    except (FileNotFoundError, ProcessLookupError):
+        return True
+
+
 def check(holds, what):
     if not holds:
         raise AssertionError(what)
@@ -137,6 +147,27 @@ def gone_clients_brick_nothing(program, asked):
     check(server.memory() <= memory + 256, "memory stays flat")
     check(steady.ask("bye") == "ok", "the others go on")
     check(server.stop().returncode == 0, "a stop")
+    check(server.end() == ENDED, "an end in order")
+
+
+def all_of_64_vanish(program, asked):
+    """Each seat is given back whose client is gone while it waits, the first and the last of them too."""
+    server = Server(program, 100_000, 64)
+    peers = [server.peer() for _ in range(64)]
+    check([peer.ask("queue") for peer in peers] == ["= 1"] * 64, "64 clients are served")
+    before = server.counts()
+    for peer in peers:
+        peer.send("remove 1")
+    time.sleep(0.5)
+    for peer in peers:
+        peer.close()
+    others = [server.peer() for _ in range(64)]
+    for other in others:
+        other.send("same 0 0")
+    check([other.line() for other in others] == ["yes"] * 64, "each seat is free again")
+    wait_until(lambda: server.counts() == before)
+    check(server.stop().returncode == 0, "a stop")
+    check([other.line() for other in others] == [""] * 64, "all are let go")
     check(server.end() == ENDED, "an end in order")
 
 
@@ -179,6 +210,9 @@ def a_stop_answers_what_is_owed(program, asked):
     time.sleep(0.2)
     stopped = server.stop()
     check((stopped.returncode, stopped.stdout, stopped.stderr) == (0, b"", b""), "a stop")
+    left = sorted(name for name in os.listdir(server.folder) if name in ("heap", "control", "history"))
+    check(left == ["history"], f"by then it has saved, and removed its files: {left}")
+    wait_until(lambda: is_gone(server.process.pid), 5)
     for number, peer in enumerate(peers):
         owed = ["! 18", "yes"] if number % 2 else ["yes"] * 20
         check([peer.line() for _ in owed] == owed and peer.line() == "", "what is owed is answered")
@@ -222,17 +256,63 @@ def a_stop_whose_save_fails(program, asked):
     shutil.rmtree(server.folder)
 
 
+def stopping(program, folder):
+    """A stop of nobody but this script, and its connection."""
+    at = os.path.join(folder, "mute")
+    with socket.socket(socket.AF_UNIX) as listener:
+        listener.bind(at)
+        listener.listen()
+        asking = subprocess.Popen([program, "stop", at], stdout=subprocess.PIPE, stderr=subprocess.PIPE)
+        stream = listener.accept()[0]
+    os.remove(at)
+    stream.settimeout(TIMEOUT)
+    return asking, stream
+
+
 def a_stop_without_a_word(program, asked):
     folder = tempfile.mkdtemp(prefix="refheap-gone-")
-    at = os.path.join(folder, "mute")
-    listener = socket.socket(socket.AF_UNIX)
-    listener.bind(at)
-    listener.listen()
-    asking = subprocess.Popen([program, "stop", at], stderr=subprocess.PIPE)
-    listener.accept()[0].close()
-    told = asking.communicate(timeout=TIMEOUT)[1]
-    check((asking.returncode, told) == NOT_ENDED, "no word is no end in order")
+    for is_read in False, True:
+        asking, stream = stopping(program, folder)
+        check(not is_read or len(stream.recv(2)) == 1, "it sends a byte")
+        stream.close()
+        told = asking.communicate(timeout=TIMEOUT)[1]
+        check((asking.returncode, told) == NOT_ENDED, "no word is no end in order")
     shutil.rmtree(folder)
+
+
+def a_stop_waits_until_the_server_is_gone(program, asked):
+    folder = tempfile.mkdtemp(prefix="refheap-gone-")
+    asking, stream = stopping(program, folder)
+    check(len(stream.recv(2)) == 1, "it sends a byte")
+    stream.sendall(b".")
+    time.sleep(0.5)
+    check(asking.poll() is None, "it waits, though it was told of the end")
+    stream.close()
+    check((asking.communicate(timeout=TIMEOUT), asking.returncode) == ((b"", b""), 0), "then it returns")
+    shutil.rmtree(folder)
+
+
+def a_stop_of_a_server_that_is_killed(program, asked):
+    """A client that reads nothing holds the server up; then a signal kills it, unsaved."""
+    server = Server(program, 9, 1)
+    peer = server.peer()
+    peer.ask("new -")
+    peer.stream.settimeout(0.5)
+    try:
+        while True:
+            peer.send(*["names"] * 1_000)
+    except TimeoutError:
+        pass
+    asking = subprocess.Popen([program, "stop", server.control], stdout=subprocess.PIPE, stderr=subprocess.PIPE)
+    time.sleep(0.5)
+    check(asking.poll() is None, "it waits for the server's end")
+    server.process.kill()
+    told = asking.communicate(timeout=TIMEOUT)[1]
+    check((asking.returncode, told) == NOT_ENDED, f"it is told that nothing was saved: {told}")
+    check(not os.path.exists(server.history), "nothing was saved")
+    server.process.communicate()
+    peer.close()
+    shutil.rmtree(server.folder)
 
 
 def a_look_is_no_stop(program, asked):
@@ -345,9 +425,10 @@ def main():
     parser.add_argument("--stops", type=int, default=40)
     asked = parser.parse_args()
     program = os.path.abspath(asked.program)
-    for case in (a_death_goes_to_the_next, gone_clients_brick_nothing, a_half_closed_client_is_answered, what_a_client_left_is_closed,
+    for case in (a_death_goes_to_the_next, gone_clients_brick_nothing, all_of_64_vanish, a_half_closed_client_is_answered, what_a_client_left_is_closed,
                  a_stop_answers_what_is_owed, a_second_stop_cuts, a_stop_without_a_server, a_stop_whose_save_fails,
-                 a_stop_without_a_word, a_look_is_no_stop, a_deleted_socket_of_control,
+                 a_stop_without_a_word, a_stop_waits_until_the_server_is_gone, a_stop_of_a_server_that_is_killed, a_look_is_no_stop,
+                 a_deleted_socket_of_control,
                  stops_beside_each_other, stops_at_any_moment, files_of_sockets):
         try:
             case(program, asked)

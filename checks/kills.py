@@ -1,7 +1,10 @@
 #!/usr/bin/env python3
-"""A program that is killed at each system call of a save.
+"""A program that is killed at each system call of a save, and what is synced before it may be told of.
 
     checks/kills.py PROGRAM [--verbose]
+
+First, by a library that is loaded before the C library (`synced.c`), since no kill of a process shows it: a session and a server sync the new file of a save
+behind its last byte and before it gets its name; and what a session closes, itself or by the cleaner, is synced before, and a socket shut down both ways.
 
 A session, and a server with a client and a `refheap stop`, whose history is saved over an older one. One life of each under `strace`
 tells the calls of the thread that saves, from the first that has to do with the file of the history, at the start, to the end. Then a
@@ -11,7 +14,7 @@ was left, the same is done again with nothing killed: it ends with status 0, its
 paths of its sockets.
 
 Then the same with the place of the older history empty: there is no file then, or the new one. At last a hundred saves that are killed
-in one folder, and a save after them. Without `strace` nothing is tried.
+in one folder, and a save after them. Without `strace` no kill is tried.
 """
 import argparse
 import collections
@@ -27,6 +30,7 @@ import time
 
 sys.dont_write_bytecode = True
 
+HERE = os.path.dirname(os.path.abspath(__file__))
 # A disk under load may take long for a sync.
 SECONDS = 120
 LINES = b"new ri\nsetint 1 1 -7\nnew -\ndrop 2\ngc\nstat\n"
@@ -217,6 +221,85 @@ def again(kind, program, folder, left):
         raise Wrong(f"a later life leaves {left_in(folder)}, where {left} was left")
 
 
+# ---- What is synced
+
+def library_in(folder):
+    """The library that tells what a program does with its files."""
+    library = os.path.join(folder, "synced.so")
+    subprocess.run([os.environ.get("CC", "cc"), "-O2", "-shared", "-fPIC", "-o", library, os.path.join(HERE, "synced.c")], check=True)
+    return library
+
+
+def told_in(log):
+    """The lines of a log: what was done, and the last parts of the names of what it had to do with."""
+    with open(log, encoding="utf-8", errors="replace") as file:
+        lines = [line.split() for line in file]
+    return [(what, *[os.path.basename(name) for name in names]) for what, *names in lines]
+
+
+def try_synced(program, library, kind, is_there):
+    """The new file of a save is synced once it has all its bytes, and then renamed."""
+    place = "over an older history" if is_there else "where nothing was"
+    with tempfile.TemporaryDirectory(prefix="refheap-kills-") as folder, tempfile.NamedTemporaryFile("r", encoding="utf-8") as log:
+        lay_out(program, folder, is_there)
+        told = kind(program, folder).live(["env", f"LD_PRELOAD={library}", f"SYNC_LOG={log.name}"])
+        seen = verdict(program, os.path.join(folder, "saved"))
+        lines = told_in(log.name)
+    if told != kind.well or not is_whole(kind, seen or ""):
+        raise Wrong(f"{kind.name} {place}, with synced.c: {told}, {seen}")
+    new = ".refheap-new0"
+    renamed = lines.index(("rename", new, "saved")) if ("rename", new, "saved") in lines else None
+    written = max((at for at, line in enumerate(lines[:renamed]) if line == ("write", new)), default=None)
+    if renamed is None or written is None:
+        raise Wrong(f"{kind.name} {place}: neither a write of {new} nor its rename was met")
+    right = any(line in (("fsync", new), ("fdatasync", new)) for line in lines[written:renamed])
+    says = f"{kind.name} {place}: the new file is synced behind its last byte, before it gets its name"
+    print(f"ok      {says}" if right else f"WRONG   {says}: not so, {lines[written:renamed + 1]}", flush=True)
+    return right
+
+
+# Files and sockets that are closed by their session, and by the cleaner.
+CLOSINGS = [("open w one", "= 1"), ("write 1 6162", "wrote 2"), ("close 1", "ok"), ("connect peer", "= 2"), ("close 2", "ok"), ("open w two", "= 3"),
+            ("write 3 63", "wrote 1"), ("connect peer", "= 4"), ("drop 3", "ok"), ("drop 4", "ok"), ("gc", "ok"), ("faults", "list")]
+
+
+def try_closed(program, library):
+    """A file is synced and a socket shut down both ways before it is closed."""
+    with tempfile.TemporaryDirectory(prefix="refheap-kills-") as folder, tempfile.NamedTemporaryFile("r", encoding="utf-8") as log, \
+            socket.socket(socket.AF_UNIX) as listener:
+        listener.bind(os.path.join(folder, "peer"))
+        listener.listen()
+        done = subprocess.run([program, "run"], input="".join(f"{line}\n" for line, _ in CLOSINGS), capture_output=True, text=True, cwd=folder,
+                              timeout=SECONDS, check=False, env={**os.environ, "LD_PRELOAD": library, "SYNC_LOG": log.name})
+        lines = told_in(log.name)
+    if (done.returncode, done.stdout.splitlines(), done.stderr) != (0, [reply for _, reply in CLOSINGS], ""):
+        raise Wrong(f"closings: {done}")
+    # The socket that the session closes is the first to be closed.
+    sockets = list(dict.fromkeys(line[1] for line in lines if line[0] == "close" and line[1:] and line[1].startswith("socket:")))
+    if len(sockets) != 2:
+        raise Wrong(f"two sockets were to be closed: {sockets}")
+    right = True
+    for what, name, due in (
+        ("a file that its session closes", "one", ["write", "fsync", "close"]), ("a file that the cleaner closes", "two", ["write", "fsync", "close"]),
+        ("a socket that its session closes", sockets[0], ["shutdown_both", "close"]), ("a socket that the cleaner closes", sockets[1], ["shutdown_both", "close"]),
+    ):
+        done = [line[0] for line in lines if line[1:] == (name,)]
+        right = right and done == due
+        print(f"ok      {what}: {', '.join(done)}" if done == due else f"WRONG   {what}: {done}, and due is {due}", flush=True)
+    return right
+
+
+def try_syncs(program):
+    """All that is synced, or shut down."""
+    if not shutil.which(os.environ.get("CC", "cc")):
+        print("left    what is synced: a C compiler is missing here")
+        return True
+    with tempfile.TemporaryDirectory(prefix="refheap-kills-") as folder:
+        library = library_in(folder)
+        right = [try_synced(program, library, kind, is_there) for is_there in (True, False) for kind in (Run, Serve)]
+        return try_closed(program, library) and all(right)
+
+
 # ---- The cases
 
 def try_all(kind, program, is_there, verbose):
@@ -277,12 +360,12 @@ def main():
     parser.add_argument("program")
     parser.add_argument("--verbose", action="store_true")
     asked = parser.parse_args()
-    if not shutil.which("strace"):
-        print("left    a kill at each system call of a save: strace is missing here")
-        return 0
     program = os.path.abspath(asked.program)
-    right = True
     try:
+        right = try_syncs(program)
+        if not shutil.which("strace"):
+            print("left    a kill at each system call of a save: strace is missing here")
+            return 0 if right else 1
         for is_there in True, False:
             for kind in Run, Serve:
                 right = try_all(kind, program, is_there, asked.verbose) and right

@@ -7,9 +7,12 @@ Of README.md and each page in docs/: that it has no more words than it may (as `
 somewhere. Of these, checks/README.md and bench/README.md: that each crate, function, clause, definition, field, test, file, must-fail edit, option and
 command that stands in backticks exists. Of docs/claims.md: that each definition lies at the line that is given, and how many the headline rests on;
 with `--mend` both are written anew. Of docs/architecture.md: that it has each crate. Of docs/specification.md and docs/protocol.md: the asks, their refusals and numbers, and the commands. With PROGRAM, the built refheap: that docs/history.svg is what examples/timeline.py draws of the session that
-docs/trace-file.md tells. Ends with status 1 where anything is wrong.
+docs/trace-file.md tells; and that `refheap commands` and `refheap commands NAME` say of each command and each refusal what docs/protocol.md says: the same operands,
+replies, refusals and examples, and a meaning and a phrase whose words are rather those of its own row than of another's. Ends with status 1 where anything is wrong.
 """
+import collections
 import glob
+import math
 import os
 import re
 import subprocess
@@ -283,6 +286,132 @@ def wrong_picture(program):
         yield "docs/history.svg is another picture; the one of today is in the folder for what is temporary"
 
 
+# ---- What the program says of its commands
+
+# First words of the replies that a command may have, and 0, a handle that is null.
+KINDS = {"=", "0", "ok", "yes", "no", "int", "data", "end", "wrote", "list", "stat", "fault"}
+# What a meaning of the table of commands says of the row above it, or of its own operands; and the asks that have other names than their commands, as the page tells.
+SHORT = {"the same": "{above}", "one that": "{subject} that", "reads it": "reads {object}", "writes them": "writes the bytes"}
+ASKS = {"soft": "MakeRef", "weak": "MakeRef", "phantom": "MakeRef", "queue": "MakeQueue", "cleaner": "MakeCleaner", "gc": "Full", "open": "Prepare",
+        "connect": "Prepare", "read": "CheckOut", "write": "CheckOut", "setint": "SetInt"}
+LISTED = {"H": ["NoSession", "NoHandle", "Null"], "K": ["NoSession", "NoHandle", "Null", "WrongKind"]}
+
+
+def rows_below(page, heading, columns):
+    """The cells of each row of so many columns below a heading, up to the next one."""
+    for line in re.search(rf"^{heading}.*?\n(.*?)(?=^#|\Z)", read(page), re.M | re.S)[1].splitlines():
+        cells = [cell.strip() for cell in line.strip("|").split("|")] if line.startswith("| ") else []
+        if len(cells) == columns:
+            yield cells
+
+
+def words_in(text):
+    """The words of a text: small, without the s at their ends, and those of a name apart."""
+    return {word.rstrip("s") for word in re.findall(r"[a-z0-9]+", re.sub(r"([a-z])([A-Z])", r"\1 \2", text).lower())} - {"such"}
+
+
+def strangers(said, due):
+    """What is said of a key though its words fit what is due to another key better than what is due to this one, or hardly anything; or though it is said of
+    two. A word counts the more, the fewer texts have it."""
+    held = {key: words_in(text) for key, text in due.items()}
+    count = collections.Counter(word for words in held.values() for word in words)
+    weight = lambda words: sum(math.log((len(held) + 1) / max(count[word], 1)) for word in words)
+    for key, text in said.items():
+        whole = weight(words_in(text)) or 1
+        fit = {other: weight(words & words_in(text)) / whole for other, words in held.items()}
+        if fit[key] < max(0.3, max(fit.values()) - 1e-9) or list(said.values()).count(text) > 1:
+            yield key, text
+
+
+def commands_due():
+    """Of each command by docs/protocol.md: its reply, its example with an answer, the numbers of its refusals, and all words that tell what it means."""
+    stat = next(meaning for line, meaning in rows_below("docs/protocol.md", "## Replies", 2) if line.startswith("`stat "))
+    numbers = {name: number for number, name, _ in rows_below("docs/protocol.md", "## Replies", 3)}
+    refusals = {ask: [numbers.get(name) for word in names.split(", ") for name in LISTED.get(word, [word])]
+                for ask, _, names, _, _ in rows_below("docs/specification.md", "## 14. Asks", 5)}
+    above = ""
+    for forms, meaning, reply, example in rows_below("docs/protocol.md", "## Commands", 4):
+        parts = {"above": above, "subject": above.partition(",")[0], "object": above.partition(" ")[2]}
+        for begin, whole in SHORT.items():
+            if meaning.startswith(begin):
+                meaning = whole.format(**parts) + meaning[len(begin):]
+        above = meaning
+        for form in TOKEN.findall(forms):
+            word = form.split()[0]
+            text = " ".join([form, meaning, reply, stat if reply == "`stat`" else ""])
+            yield form, (reply, TOKEN.findall(example), refusals.get(ASKS.get(word, word.capitalize()), []), text)
+
+
+def commands_told(program):
+    """What the program tells: of each command its reply and the numbers of its refusals, the range of each operand, a phrase of each refusal, and the lines of each
+    command's page."""
+    tell = lambda *words: subprocess.run([os.path.abspath(program), "commands", *words], capture_output=True, text=True, check=True).stdout
+    table, operands, phrases = tell().split("\n\n")
+    head, *table = table.splitlines()
+    reply, refused = head.index("Reply"), head.index("Refused")
+    table = {line[:reply].strip(): (line[reply:refused].strip(), line[refused:].split()) for line in table}
+    pages = {}
+    for word in dict.fromkeys(form.split()[0] for form in table):
+        for line in tell(word).splitlines():
+            if not line.startswith(" "):
+                pages[line] = page = []
+            else:
+                page.append(line.strip())
+    in_two = lambda text: [line.split(None, 1) for line in text.splitlines()[1:]]
+    return table, in_two(operands), dict(in_two(phrases)), pages
+
+
+def kinds_of(reply):
+    return {part.removeprefix("a ").split()[0] for part in re.split("[,;] ", reply.replace("`", ""))} & KINDS
+
+
+def wrong_manual(program):
+    """What `refheap commands` says otherwise than docs/protocol.md."""
+    table, operands, phrases, pages = commands_told(program)
+    due = dict(commands_due())
+    if list(table) != list(due) or set(pages) != set(due):
+        yield f"the program lists {', '.join(table)}, and has pages of {', '.join(pages)}"
+        return
+    for form, (reply, example, refused, _) in due.items():
+        told, numbers = table[form]
+        shown = re.search(r"^example  (.*)\n(.*)$", "\n".join(pages[form]), re.M).groups()
+        if kinds_of(told) != kinds_of(reply) or not words_in(told) - {"a"} <= words_in(reply) or f"reply    {told}" not in pages[form]:
+            yield f"`{form}` is answered {reply}; the program says {told}"
+        word = form.split()[0]
+        # One row has an example for three commands.
+        if shown[1] != example[1] or shown[0].split()[0] != word or example[0].split()[0] == word and shown[0] != example[0]:
+            yield f"the example of `{form}` is {example}; the program's is {shown}"
+        said = [line for line in pages[form] if re.match(r"! \d+ ", line)]
+        if numbers != refused or said != [f"! {number:<7}{phrases.get(number)}" for number in numbers]:
+            yield f"`{form}` may be refused {' '.join(refused)}; the program says {' '.join(numbers)}, or its page has other phrases"
+    for form, meaning in strangers({form: page[0] for form, page in pages.items()}, {form: text for form, (*_, text) in due.items()}):
+        yield f"the program says of `{form}` that it {meaning}"
+    yield from wrong_ranges(operands)
+    yield from wrong_phrases(phrases)
+
+
+def wrong_ranges(operands):
+    """Operands with other bounds than the table of fields has."""
+    fields = {letter: set(re.findall(r"-?\d+", text)) - {"-0"} for letters, text in rows_below("docs/protocol.md", "## Lines", 2) for letter in letters.split(", ")}
+    for letter, text in operands:
+        bounds = set(re.findall(r"-?\d+", text))
+        if letter not in fields or bounds and bounds != fields[letter]:
+            yield f"the program says of the operand {letter}: {text}"
+
+
+def wrong_phrases(phrases):
+    """Refusals whose phrase is rather that of another."""
+    options = {option.strip("`-"): meaning for option, _, _, meaning in rows_below("docs/protocol.md", "## The command line", 4)}
+    due = {number: f"{name} {why}" for number, name, why in rows_below("docs/protocol.md", "## Replies", 3) if number.isdigit()}
+    if set(phrases) != set(due):
+        yield f"the program has phrases for {', '.join(phrases)}"
+        return
+    # What an option bounds is told there in other words.
+    wide = {number: " ".join([text, *[meaning for option, meaning in options.items() if option in text.split()]]) for number, text in due.items()}
+    for number, phrase in strangers(phrases, wide):
+        yield f"refusal {number} is {due[number]}; the program says: {phrase}"
+
+
 def main():
     mend = "--mend" in sys.argv
     programs = [word for word in sys.argv[1:] if not word.startswith("--")]
@@ -302,6 +431,7 @@ def main():
             wrong += wrong_crates(page)
         if page == "docs/protocol.md":
             wrong += wrong_commands(page, names)
+            wrong += wrong_manual(programs[0]) if programs else []
         if page == "docs/trace-file.md" and programs:
             wrong += wrong_picture(programs[0])
         failed += bool(wrong)

@@ -1,6 +1,6 @@
 #!/usr/bin/env python3
 """Tries the program as a person at a terminal meets it, on pseudo-terminals and pipes: the client of a server, the manual of the commands,
-the versions, the figures of a history, verdicts as JSON, and the reasons that are told where a file or a socket cannot be used.
+the versions, the figures of a history, how far a long audit is, verdicts as JSON, and the reasons that are told where a file or a socket cannot be used.
 
     checks/terminal.py PROGRAM
 
@@ -17,7 +17,8 @@ import tempfile
 import time
 
 WRONG = []
-MISSING = "refheap: there is no such file or folder: check the path\n"
+NO_FILE = "there is no such file or folder: check the path\n"
+MISSING = "refheap: " + NO_FILE
 
 
 def wants(what, got, due):
@@ -97,6 +98,7 @@ def at_terminal(program, folder):
         ("soft 1 0", "= 2\n"),
         (".nothing", "no such word of the client; `help` lists them\n"),
         (".save script", ""),
+        (".save none/script", "cannot save none/script\n" + NO_FILE),
         ("help nothing", "no such command; `help` lists them\n"),
         ("stat", "stat 2 0 0 0 0\n"),
     ]
@@ -122,6 +124,14 @@ def at_terminal(program, folder):
         status, said = terminal.ended()
         wants(f"{word!r} ends it", (status, said.replace("^D\b\b", "")), (0, shown))
     wants("the server ends", server.ended()[0], 0)
+    server = Server(program, folder, 1, ["--control", "control"])
+    terminal = Terminal([program, "client", server.path], folder)
+    terminal.until(b"> ")
+    terminal.types("new -\n")
+    wants("a session of which the server will end", terminal.until(b"> "), "new -\n= 1\n> ")
+    wants("the server is stopped", (run(program, ["stop", "control"], folder=folder), server.ended()[0]), ((0, "", ""), 0))
+    terminal.types("stat\n")
+    wants("at a terminal: the server has ended", terminal.ended(), (0, "stat\nthe server has ended the session\n"))
 
 
 def from_pipe(program, folder):
@@ -246,6 +256,37 @@ def figures(program, folder):
     wants("its figures have its status", run(program, ["stats", "history"], folder=folder)[0], 3)
 
 
+MANY = 1_100
+
+
+def many_collections(program, folder):
+    """All collections count, and the first thousand are told one by one."""
+    told = json.loads(of_session(program, "gc\n" * MANY, folder))
+    each = told["each"]
+    wants(f"{MANY} collections", (told["collections"], len(each), told["asks"]["0"]["gc"]), (MANY, 1_000, MANY))
+    # The first entry is that of the join.
+    wants("their entries", [one["entry"] for one in each[:2] + each[-1:]], [2, 3, 1_001])
+
+
+LONG = 250_000
+# The front of a history of so many entries, in version 2, from an empty heap; and an entry that is legal there: `stat` of who has not joined.
+FRONT = bytes.fromhex("4a4c5254 02 00000010 01 0010 0000000000000000 00000000 00" + "00000000" * 7 + "0000000000000001" + "00" * 24) + LONG.to_bytes(8, "big")
+ENTRY = bytes.fromhex("00 2100 100d 00")
+
+
+def progress(program, folder):
+    """On a terminal the standard error says how far a long audit is; elsewhere nothing."""
+    with open(os.path.join(folder, "long"), "wb") as file:
+        file.write(FRONT + ENTRY * LONG)
+    verdict = f"legal {LONG} version 2\n"
+    for words in (["audit", "long"], ["audit", "--explain", "long"]):
+        status, shown = Terminal([program, *words], folder).ended()
+        far = [line for line in shown.splitlines() if "%" in line]
+        wants(f"how far `{' '.join(words)}` is", (status, [[share for share in ("40 %", "80 %") if share in line] for line in far], shown.endswith(verdict)),
+              (0, [["40 %"], ["80 %"]], True))
+        wants(f"elsewhere `{' '.join(words)}` says the verdict alone", run(program, words, folder=folder), (0, verdict, ""))
+
+
 def reasons(program, folder):
     there = lambda name: os.path.join(folder, name)
     line = lambda reason: f"refheap: {reason}\n"
@@ -317,7 +358,7 @@ def speed(program, folder):
 
 def main():
     program = os.path.abspath(sys.argv[1])
-    for part in [at_terminal, from_pipe, manual, greeting, figures, reasons, speed]:
+    for part in [at_terminal, from_pipe, manual, greeting, figures, many_collections, progress, reasons, speed]:
         with tempfile.TemporaryDirectory() as folder:
             part(program, folder)
     sys.exit(1 if WRONG else 0)
