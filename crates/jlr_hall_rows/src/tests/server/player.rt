@@ -26,20 +26,8 @@ pub(super) fn serve_all<T: Threads + Wait + Sync>(
     after: After,
     opens_at: u64,
 ) -> Result<Entries, Fail> {
-    serve_marking(rt, threads, (cells, 64), clients, after, opens_at)
-}
-
-/// The same, with the budget of a piece of marking beside the number of cells.
-pub(super) fn serve_marking<T: Threads + Wait + Sync>(
-    rt: HostRuntime,
-    threads: &T,
-    (cells, budget): (u32, u32),
-    clients: &[Client],
-    after: After,
-    opens_at: u64,
-) -> Result<Entries, Fail> {
     let sessions = u32::try_from(clients.len()).ok().ok_or("clients")?;
-    let limits = Limits::checked(cells, sessions, 4, 4, 100_000, budget)
+    let limits = Limits::checked(cells, sessions, 4, 4, 100_000, 64)
         .ok()
         .ok_or("limits")?;
     let clients = Clients::new(rt, clients, after, opens_at);
