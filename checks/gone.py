@@ -219,8 +219,8 @@ def a_stop_answers_what_is_owed(program, asked):
     check(server.end() == ENDED, "an end in order")
 
 
-def a_second_stop_cuts(program, asked):
-    server = Server(program, 100, 2)
+def peer_that_reads_nothing(server):
+    """A client that reads no reply, and sends until it can no longer."""
     peer = server.peer()
     peer.ask("new -")
     peer.stream.settimeout(0.5)
@@ -229,6 +229,12 @@ def a_second_stop_cuts(program, asked):
             peer.send(*["names"] * 1_000)
     except TimeoutError:
         pass
+    return peer
+
+
+def a_second_stop_cuts(program, asked):
+    server = Server(program, 100, 2)
+    peer = peer_that_reads_nothing(server)
     stream = socket.socket(socket.AF_UNIX)
     stream.connect(server.control)
     stream.send(b".")
@@ -295,14 +301,7 @@ def a_stop_waits_until_the_server_is_gone(program, asked):
 def a_stop_of_a_server_that_is_killed(program, asked):
     """A client that reads nothing holds the server up; then a signal kills it, unsaved."""
     server = Server(program, 9, 1)
-    peer = server.peer()
-    peer.ask("new -")
-    peer.stream.settimeout(0.5)
-    try:
-        while True:
-            peer.send(*["names"] * 1_000)
-    except TimeoutError:
-        pass
+    peer = peer_that_reads_nothing(server)
     asking = subprocess.Popen([program, "stop", server.control], stdout=subprocess.PIPE, stderr=subprocess.PIPE)
     time.sleep(0.5)
     check(asking.poll() is None, "it waits for the server's end")
