@@ -5,12 +5,18 @@
 
 A session makes N arrays of 4,096 elements (100,000) that are refused, since its 16 cells are full, and another as many that are given up and
 collected: the memory at the end is held against that after the first tenth. A third session, which may have 512 MB, makes arrays in 65,536 cells
-until one is refused because memory ran out (`! 1`): all before it are there, with what they hold, and the session goes on.
+until one is refused because memory ran out (`! 1`): all before it are there, with what they hold, and the session goes on. A server whose
+client gives up 20,000 arrays never holds as many as its 4,096 cells could: the marker sweeps those that it collected.
 """
 import argparse
+import os
 import resource
+import shutil
+import socket
 import subprocess
 import sys
+import tempfile
+import time
 
 LIMIT = 512 * 1024 * 1024
 BATCH = 100
@@ -104,12 +110,39 @@ def starved(program):
     return faults + said("the session ends", session.close() == 0)
 
 
+def served(program):
+    folder = tempfile.mkdtemp(prefix="refheap-arrays-")
+    path = os.path.join(folder, "heap")
+    process = subprocess.Popen([program, "serve", "--socket", path, "--total", "1", "--cells", "4096", "--trace", "64"])
+    while not os.path.exists(path):
+        time.sleep(0.01)
+    stream = socket.socket(socket.AF_UNIX)
+    stream.connect(path)
+    lines = stream.makefile("rb")
+
+    def ask(*asked):
+        stream.sendall("".join(line + "\n" for line in asked).encode())
+        return [lines.readline().decode().rstrip("\n") for _ in asked]
+
+    for _ in range(200):
+        ask(*["array 4096", "drop 1"] * BATCH)
+        time.sleep(0.005)
+    with open(f"/proc/{process.pid}/status") as status:
+        most = next(int(line.split()[1]) for line in status if line.startswith("VmHWM:"))
+    faults = said("a server's marker gives the memory of dead arrays back", most < 40_000, f"({most} kB; all its cells would hold 67,000)")
+    ask("bye")
+    faults += said("the server ends", process.wait() == 0)
+    shutil.rmtree(folder)
+    return faults
+
+
 def main():
     words = argparse.ArgumentParser(description="what arrays take, and give back")
     words.add_argument("program")
     words.add_argument("--arrays", type=int, default=100_000)
     words = words.parse_args()
     faults = refused(words.program, words.arrays) + collected(words.program, words.arrays) + starved(words.program)
+    faults += served(words.program)
     return 1 if faults else 0
 
 

@@ -3,7 +3,7 @@
 #     checks/embed.sh [PROGRAM [CALLS]]
 # The header compiles as C and as C++, with no warning. The callers in C run plain, under the sanitizers of addresses and of undefined behaviour, and under valgrind,
 # where they are there. The worked sessions are played by calls, and, with a PROGRAM, random ones by calls and by `refheap run`. Then CALLS random
-# calls, a million where nothing is said, are compared with an oracle in Python. REFHEAP_ARCHIVE names an archive that is built already; else `rt lib`
+# calls, a million where nothing is said, are compared with an oracle in Python. What calls take by malloc is counted (embed_memory.c). REFHEAP_ARCHIVE names an archive that is built already; else `rt lib`
 # proves and builds it. KIT is the folder of the kit.
 set -eu
 here=$(cd "$(dirname "$0")" && pwd)
@@ -80,6 +80,10 @@ for name in page cache lists; do
         echo "ok      $name: well under valgrind"
     fi
 done
+
+wrapped=-Wl,--wrap=malloc,--wrap=calloc,--wrap=realloc,--wrap=aligned_alloc
+cc -std=c99 $strict -O2 -I "$folder" "$here/embed_memory.c" "$archive" $wrapped -o "$room/memory"
+"$room/memory"
 
 export PYTHONDONTWRITEBYTECODE=1
 printf "held: [] 0\ndropped: ['died'] 0 True\nread: b'' open: 1\nforgotten: open: 0\nrefused: deref: no handle\n" > "$room/embed.wanted"

@@ -4,7 +4,7 @@
     checks/gone.py PROGRAM [--clients N] [--stops N]
 
 Clients that vanish in `remove`, at random moments: each gives its seat back and takes no reference, so a death goes to the next who waits; a
-client that is only half-closed is still answered; descriptors, threads and memory stay flat over N of them (2,000); where all of 64 clients
+client that is only half-closed is still answered; who waits takes no processor; descriptors, threads and memory stay flat over N of them (2,000); where all of 64 clients
 vanish so, each seat is free again. What a client left
 open is closed on a quiet server, and `open` finds room again. A server that is asked to end answers `! 18` to who waits and all that was
 sent, saves, removes its files and only then lets go who asked, and is gone then: with 64 clients, while it starts, while its save
@@ -168,6 +168,28 @@ def all_of_64_vanish(program, asked):
     wait_until(lambda: server.counts() == before)
     check(server.stop().returncode == 0, "a stop")
     check([other.line() for other in others] == [""] * 64, "all are let go")
+    check(server.end() == ENDED, "an end in order")
+
+
+def ticks(process):
+    with open(f"/proc/{process.pid}/stat", encoding="ascii") as file:
+        fields = file.read().rpartition(")")[2].split()
+    return int(fields[11]) + int(fields[12])
+
+
+def who_waits_takes_no_processor(program, asked):
+    server = Server(program, 12, 12)
+    peers = [server.peer() for _ in range(10)]
+    check([peer.ask("queue") for peer in peers] == ["= 1"] * 10, "10 clients are served")
+    for peer in peers:
+        peer.send("remove 1")
+    client = subprocess.Popen([program, "client", server.path], stdin=subprocess.PIPE, stdout=subprocess.DEVNULL)
+    time.sleep(0.5)
+    before = ticks(server.process), ticks(client)
+    time.sleep(3)
+    check(ticks(server.process) - before[0] <= 5 and ticks(client) - before[1] <= 5, "who waits takes no processor")
+    client.communicate(b"bye\n", timeout=TIMEOUT)
+    check(server.stop().returncode == 0, "a stop")
     check(server.end() == ENDED, "an end in order")
 
 
@@ -424,8 +446,8 @@ def main():
     parser.add_argument("--stops", type=int, default=40)
     asked = parser.parse_args()
     program = os.path.abspath(asked.program)
-    for case in (a_death_goes_to_the_next, gone_clients_brick_nothing, all_of_64_vanish, a_half_closed_client_is_answered, what_a_client_left_is_closed,
-                 a_stop_answers_what_is_owed, a_second_stop_cuts, a_stop_without_a_server, a_stop_whose_save_fails,
+    for case in (a_death_goes_to_the_next, gone_clients_brick_nothing, all_of_64_vanish, who_waits_takes_no_processor, a_half_closed_client_is_answered,
+                 what_a_client_left_is_closed, a_stop_answers_what_is_owed, a_second_stop_cuts, a_stop_without_a_server, a_stop_whose_save_fails,
                  a_stop_without_a_word, a_stop_waits_until_the_server_is_gone, a_stop_of_a_server_that_is_killed, a_look_is_no_stop,
                  a_deleted_socket_of_control,
                  stops_beside_each_other, stops_at_any_moment, files_of_sockets):

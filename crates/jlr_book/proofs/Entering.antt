@@ -32,7 +32,6 @@ use Rattle.jlr_event.specs.declared.event.Event.{Event}
 use Rattle.jlr_event.specs.declared.event.Event.TheVariants as event
 use Rattle.jlr_event.specs.declared.event.Reply.{Reply}
 use Rattle.jlr_event.specs.declared.event.Reply.TheVariants.{Answered, Marked}
-use Rattle.jlr_event.specs.Asks.{hands_in}
 use Rattle.jlr_event.specs.Events.{ask_of, answer_in}
 use Rattle.jlr_plain.specs.declared.record.Record.{Record}
 use Rattle.jlr_plain.specs.Records.{record_of, replayed}

@@ -11,4 +11,4 @@ mod cut;
 mod entry;
 pub mod event;
 pub mod image;
-pub mod room;
+mod room;

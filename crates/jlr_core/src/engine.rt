@@ -70,12 +70,12 @@ impl<R> Core<R> {
     }
 
     /// One event. The choice says what was chosen; it has room for every cell. Only `Prepare` where the table of
-    /// resources has no room, `Names`, `Notes` and `Faults`, which copy a list, and `Array`, for its elements, may find
-    /// no memory, and only where they are not refused. A piece of marking changes nothing but marks: in an open cycle
-    /// it follows grey cells, one tick each, and of an array one for each 64 elements, by the soft policy, and is Done
-    /// where none is left; without one it is Idle, and as many condemned cells become free, or all where there are no
-    /// more. A `Collect` keeps exactly what is marked, and is answered yes exactly where a cycle is open and no cell is
-    /// grey.
+    /// resources has no room, `Bind` of a new name, `Names`, `Notes` and `Faults`, which copy a list, and `Array`, for
+    /// its elements, may find no memory, and only where they are not refused. A piece of marking changes nothing but
+    /// marks: in an open cycle it follows grey cells, one tick each, and of an array one for each 64 elements, by the
+    /// soft policy, and is Done where none is left; without one it is Idle, and as many condemned cells become free, or
+    /// all where there are no more. A `Collect` keeps exactly what is marked, and is answered yes exactly where a cycle
+    /// is open and no cell is grey.
     #[inline(always)]
     pub fn step(&mut self, event: Event<R>, choice: &mut Choice) -> Reply<R>
         requires room { length self.old.machine.objects ≤ choice.old.cells }

@@ -30,9 +30,10 @@ pub struct RealDevice {
 }
 
 impl RealDevice {
-    /// The device of a program's runtime. None of its calls has failed.
+    /// The device of a program's runtime. None of its calls has failed, and it waits for no client.
     pub fn new(rt: HostRuntime) -> RealDevice
-        ensures { result.failures ≡ 0 }
+        ensures failures { result.failures ≡ 0 }
+        ensures client { result.client ≡ None }
     {
         RealDevice {
             rt,

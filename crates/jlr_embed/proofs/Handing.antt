@@ -81,6 +81,12 @@ less_pending old new what chosen step stands some =
 -- ---- One step more
 
 pub more : {R : Type 0} (all : List Handed) (what : Handed) (old mid new : Kept R) → HandsOverSteps all old mid
-    → Steps mid (Asks ask.HandOver) (Answered (answer.Handed what) None) new → HandsOverSteps (all ++ what ∷ []) old new
-more [] what old mid new h s = (new, subst (λ m. Steps m (Asks ask.HandOver) (Answered (answer.Handed what) None) new) h s, refl)
-more (x ∷ all) what old mid new h s = (h.0, h.1, more all what h.0 mid new h.2 s)
+    → mid.machine.pending ≢ [] → Steps mid (Asks ask.HandOver) (Answered (answer.Handed what) None) new
+    → HandsOverSteps (all ++ what ∷ []) old new
+more {R} [] what old mid new h some s = (
+  subst (λ (m : Kept R). m.machine.pending ≢ []) h some,
+  new,
+  subst (λ (m : Kept R). Steps m (Asks ask.HandOver) (Answered (answer.Handed what) None) new) h s,
+  refl,
+)
+more (x ∷ all) what old mid new h some s = (h.0, h.1, h.2, more all what h.1 mid new h.3 some s)

@@ -1,5 +1,5 @@
 -- What follows a collection: the handler hands over until nothing is pending.
-use Rattle.std.specs.Prelude.{◌≡◌, List, [], ◌∷◌, None}
+use Rattle.std.specs.Prelude.{◌≡◌, ◌≢◌, List, [], ◌∷◌, None}
 use Rattle.jlr_machine.specs.declared.ask.Handed.{Handed}
 use Rattle.jlr_machine.specs.declared.ask.Answer.TheVariants as answer
 use Rattle.jlr_machine.specs.declared.ask.Ask.TheVariants.{HandOver}
@@ -8,10 +8,10 @@ use Rattle.jlr_event.specs.declared.event.Reply.TheVariants.{Answered}
 use Rattle.jlr_core.specs.Cores.{Kept}
 use Rattle.jlr_core.specs.Steps.{Steps}
 
--- steps of the handler, one after the other, which handed these over
+-- steps of the handler, one after the other, each where something was pending, which handed these over
 abbrev pub HandsOverSteps : {R : Type 0} → List Handed → Kept R → Kept R → Type 0
 HandsOverSteps [] old new = new ≡ old
-HandsOverSteps {R} (what ∷ later) old new = (next : Kept R)
+HandsOverSteps {R} (what ∷ later) old new = (old.machine.pending ≢ []) × (next : Kept R)
     × Steps old (Asks HandOver) (Answered (answer.Handed what) None) next × HandsOverSteps later next new
 
 -- such steps, until nothing is pending

@@ -21,7 +21,7 @@ use crate::effect::{Effect, says_queued};
 use crate::lock::take;
 use crate::seat::Seat;
 use crate::step::{Limited, Step};
-use crate::vigil::{NoVigil, Vigil};
+use crate::vigil::Vigil;
 use jlr_book::book::Book;
 use jlr_book::event::decline;
 use jlr_event::event::{Event, Reply};
@@ -284,6 +284,13 @@ impl<R: Drop, L: Naming + Limited> Hall<R, L> {
         self.locked.lock(rt).book.limits().budget
     }
 
+    /// How many cells its heap has.
+    pub(crate) fn cells<T: Wait>(&self, rt: &T) -> u32
+        ensures { result ≡ L.limits.cells }
+    {
+        self.locked.lock(rt).book.limits().cells
+    }
+
     /// A client of this number sits down on the seat of a session: from now on a `remove` of that seat waits.
     pub fn sit<T: Wait>(&self, rt: &T, seat: u8, client: u32) {
         self.locked.lock(rt).chairs.sit(seat, client);
@@ -399,16 +406,8 @@ impl<R: Drop, L: Naming + Limited> Seat<R, L> {
         self.ask_once(rt, hall, event, room)
     }
 
-    /// One `Remove` of this seat's mutator, asked once its queue holds something, or once the hall is to end. Where the
-    /// client at the seat is gone it is declined: nothing is taken off the queue.
-    pub fn remove_waiting<T: Wait>(&mut self, rt: &T, hall: &Hall<R, L>, queue: Handle) -> Reply<R>
-        ensures { Asked L.limits self.old (Asks (Remove self.old.seat queue)) result self.new }
-    {
-        let mutator = Mutator::new(self.index());
-        self.remove(rt, hall, &NoVigil, Removal { mutator, queue })
-    }
-
-    /// The same of any mutator, whose client is looked after where it waits. It is declined where nobody can.
+    /// One `Remove`, asked once its queue holds something, or once the hall is to end. The client at the seat is looked
+    /// after while it waits; where nobody can, or where it is gone, the ask is declined: nothing is taken off the queue.
     pub(crate) fn remove<T: Wait, V: Vigil>(
         &mut self,
         rt: &T,

@@ -100,9 +100,9 @@ impl<R: Drop, L: Naming + Limited> Hall<R, L> {
 }
 
 /// Begins a cycle where one is due, which it looks at and asks under one taking of the lock. Marks it in pieces of at
-/// most so many cells, and collects it once all is marked, until the hall is to end. Each ask and each piece has the
-/// lock for itself, so that the sessions go on between them. A cycle that something else has closed is left; where an
-/// ask is refused it waits for the next event.
+/// most so many cells, collects it once all is marked, and sweeps what that removed in such pieces, until the hall is to
+/// end. Each ask and each piece has the lock for itself, so that the sessions go on between them. A cycle that something
+/// else has closed is left; where an ask is refused it waits for the next event.
 pub fn marker_loop<R: Drop, L: Naming + Limited, T: Wait>(
     seat: Seat<R, L>,
     rt: &T,
@@ -142,7 +142,7 @@ fn begin<R: Drop, L: Naming + Limited, T: Wait>(
     }
 }
 
-/// A piece of marking, and where all is marked then the collection.
+/// A piece of marking, and where all is marked then the collection and its sweep.
 fn mark_or_collect<R: Drop, L: Naming + Limited, T: Wait>(
     seat: &mut Seat<R, L>,
     rt: &T,
@@ -152,9 +152,22 @@ fn mark_or_collect<R: Drop, L: Naming + Limited, T: Wait>(
     ensures { (first : Seen (Step R)) → AsksOnly L.limits (IsMarkers L.limits budget) first seat.old
         → AsksOnly L.limits (IsMarkers L.limits budget) first seat.new }
 {
-    if all_is_marked(&seat.mark(rt, hall, budget)) {
-        collect(seat, rt, hall);
+    if piece(seat, rt, hall, budget) {
+        collect(seat, rt, hall, budget);
     }
+}
+
+/// A piece of marking, or, where no cycle is open, of sweeping. Whether it left nothing to mark.
+fn piece<R: Drop, L: Naming + Limited, T: Wait>(
+    seat: &mut Seat<R, L>,
+    rt: &T,
+    hall: &Hall<R, L>,
+    budget: u32,
+) -> bool
+    ensures { (first : Seen (Step R)) → AsksOnly L.limits (IsMarkers L.limits budget) first seat.old
+        → AsksOnly L.limits (IsMarkers L.limits budget) first seat.new }
+{
+    all_is_marked(&seat.mark(rt, hall, budget))
 }
 
 /// Whether a piece of marking left nothing to mark.
@@ -162,13 +175,35 @@ fn all_is_marked<R>(reply: &Reply<R>) -> bool {
     matches!(reply, Reply::Marked(Progress::Done))
 }
 
-/// The collection of a cycle. Where it is refused it waits for the next event.
-fn collect<R: Drop, L: Naming + Limited, T: Wait>(seat: &mut Seat<R, L>, rt: &T, hall: &Hall<R, L>)
-    ensures { (budget : ℕ) (first : Seen (Step R)) → AsksOnly L.limits (IsMarkers L.limits budget) first seat.old
+/// The collection of a cycle, and the sweep of what it removed. Where it is refused it waits for the next event.
+fn collect<R: Drop, L: Naming + Limited, T: Wait>(
+    seat: &mut Seat<R, L>,
+    rt: &T,
+    hall: &Hall<R, L>,
+    budget: u32,
+)
+    ensures { (first : Seen (Step R)) → AsksOnly L.limits (IsMarkers L.limits budget) first seat.old
         → AsksOnly L.limits (IsMarkers L.limits budget) first seat.new }
 {
     if was_refused(&seat.ask_plain(rt, hall, Ask::Collect)) {
         hall.wait_for_marker(rt);
+    } else {
+        sweep(seat, rt, hall, budget);
+    }
+}
+
+/// Sweeps in as many pieces as all cells take, so that dead arrays give their memory back.
+fn sweep<R: Drop, L: Naming + Limited, T: Wait>(
+    seat: &mut Seat<R, L>,
+    rt: &T,
+    hall: &Hall<R, L>,
+    budget: u32,
+)
+    ensures { (first : Seen (Step R)) → AsksOnly L.limits (IsMarkers L.limits budget) first seat.old
+        → AsksOnly L.limits (IsMarkers L.limits budget) first seat.new }
+{
+    for _ in 0..=hall.cells(rt) / budget.max(1) {
+        piece(seat, rt, hall, budget);
     }
 }
 

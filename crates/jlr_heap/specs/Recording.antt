@@ -1,5 +1,5 @@
 -- A heap whose asks a book records.
-use Rattle.std.specs.Prelude.{◌≡◌, ◌⊎◌, List, [], ◌∷◌, Some}
+use Rattle.std.specs.Prelude.{◌≡◌, ◌≢◌, ◌⊎◌, List, [], ◌∷◌, Some}
 use Rattle.jlr_machine.specs.declared.ask.Handed.{Handed}
 use Rattle.jlr_machine.specs.declared.ask.Answer.TheVariants as answer
 use Rattle.jlr_machine.specs.declared.ask.Ask.TheVariants.{HandOver}
@@ -12,16 +12,15 @@ use Rattle.jlr_book.specs.Rules.{BookSteps, was_refused}
 use Rattle.jlr_book.specs.Histories.{handler_seat}
 
 module _ {R : Type 0} where
-  -- a step of the handler, which handed something over
+  -- a step of the handler where something is pending, which handed something over
   abbrev pub HandsOne : History R → History R → Type 0
-  HandsOne old new =
-      (reply : Reply R) × (what : Handed) × BookSteps (handler_seat old) old (Asks HandOver) reply new
-      × (answer_in reply ≡ Some (answer.Handed what))
+  HandsOne old new = (old.core.machine.pending ≢ []) × (reply : Reply R) × (what : Handed)
+      × BookSteps (handler_seat old) old (Asks HandOver) reply new × (answer_in reply ≡ Some (answer.Handed what))
 
   -- or was refused
   abbrev pub CannotHand : History R → History R → Type 0
-  CannotHand old new = (reply : Reply R) × BookSteps (handler_seat old) old (Asks HandOver) reply new
-      × was_refused reply
+  CannotHand old new = (old.core.machine.pending ≢ []) × (reply : Reply R)
+      × BookSteps (handler_seat old) old (Asks HandOver) reply new × was_refused reply
 
   -- such steps, which led to these
   abbrev pub HandsOverRecorded : List (History R) → History R → History R → Type 0

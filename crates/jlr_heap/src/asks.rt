@@ -1,5 +1,5 @@
 //! The asks of a program: a method for each.
-ghost use Rattle.std.specs.Prelude.{◌≡◌};
+ghost use Rattle.std.specs.Prelude.{◌≡◌, IfOk, Some};
 ghost use Rattle.jlr_heap.specs.Entries.{IsDone, IsEntry, counts, told_faults, handle, handle_or_null};
 ghost use Rattle.jlr_heap.specs.Entries.{integer, names, notes, or_null, truth};
 
@@ -88,7 +88,8 @@ impl<K: Keeper> Heap<K> {
 
     /// A reference field or an element is read.
     pub fn get(&mut self, object: Handle, field: FieldNo) -> Result<Option<Handle>, Refusal>
-        ensures { IsEntry K.asking self.old (Ask.Get 0 object field) (handle_or_null result) self.new }
+        ensures entry { IsEntry K.asking self.old (Ask.Get 0 object field) (handle_or_null result) self.new }
+        ensures null { IfOk result (λ given. given ≡ Some 0 → ⊥) }
     {
         self.gives_or_null(Ask::Get {
             mutator: me(),
@@ -170,7 +171,8 @@ impl<K: Keeper> Heap<K> {
 
     /// What a reference refers to; none where it is cleared, and of a phantom one always.
     pub fn deref(&mut self, reference: Reference) -> Result<Option<Handle>, Refusal>
-        ensures { IsEntry K.asking self.old (Ask.Deref 0 reference) (handle_or_null result) self.new }
+        ensures entry { IsEntry K.asking self.old (Ask.Deref 0 reference) (handle_or_null result) self.new }
+        ensures null { IfOk result (λ given. given ≡ Some 0 → ⊥) }
     {
         self.gives_or_null(Ask::Deref {
             mutator: me(),
@@ -231,7 +233,8 @@ impl<K: Keeper> Heap<K> {
 
     /// The oldest member is taken off a queue, if there is one.
     pub fn poll(&mut self, queue: Queue) -> Result<Option<Handle>, Refusal>
-        ensures { IsEntry K.asking self.old (Ask.Poll 0 queue) (handle_or_null result) self.new }
+        ensures entry { IsEntry K.asking self.old (Ask.Poll 0 queue) (handle_or_null result) self.new }
+        ensures null { IfOk result (λ given. given ≡ Some 0 → ⊥) }
     {
         self.gives_or_null(Ask::Poll {
             mutator: me(),

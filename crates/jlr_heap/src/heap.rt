@@ -139,7 +139,8 @@ impl<K: Keeper> Heap<K> {
     pub(crate) fn gives_or_null(&mut self, ask: Ask) -> Result<Option<Handle>, Refusal>
         requires plain { carries_none ask ≡ true }
         requires kind { kind_asked (Some ask) ≡ is_handle }
-        ensures { IsEntry K.asking self.old ask (handle_or_null result) self.new }
+        ensures entry { IsEntry K.asking self.old ask (handle_or_null result) self.new }
+        ensures null { IfOk result (λ given. given ≡ Some 0 → ⊥) }
     {
         let handle = self.gives(ask)?;
         if handle.number() == 0 {

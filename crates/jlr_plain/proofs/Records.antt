@@ -1,5 +1,5 @@
 -- A record keeps its entry, and an answer that is replayed changes nothing in the machine.
-use Rattle.std.proofs.Common.{◌≡◌, ℕ, suc, Bool, true, false, not, if◌then◌else◌, List, [], ◌∷◌, ◌++◌, length, Option, Some, None}
+use Rattle.std.proofs.Common.{◌≡◌, ℕ, suc, Bool, true, false, not, cond, if◌then◌else◌, List, [], ◌∷◌, ◌++◌, length, Option, Some, None}
 use Rattle.std.proofs.Common.{option_map, option_and_then, refl, sym, ◌∙◌, ap, subst}
 use Rattle.std.proofs.lemmas.Bool.{both_ways}
 use Rattle.jlr_types.specs.declared.FieldValue.{FieldValue}
@@ -16,6 +16,7 @@ use Rattle.jlr_machine.specs.declared.ask.CallOutcome.TheVariants.{Data as GotDa
 use Rattle.jlr_machine.specs.declared.ask.Ask.{Ask}
 use Rattle.jlr_machine.specs.declared.ask.Ask.TheVariants as ask
 use Rattle.jlr_machine.specs.declared.ask.Answer.{Answer}
+use Rattle.jlr_machine.specs.declared.ask.Stat.{Stat}
 use Rattle.jlr_machine.specs.declared.ask.Answer.TheVariants as answer
 use Rattle.jlr_machine.specs.declared.entry.Collected.{Collected}
 use Rattle.jlr_machine.specs.declared.entry.Entry.{Entry}
@@ -30,20 +31,25 @@ use Rattle.jlr_machine.specs.Run.IsLegal.{carried_out, refused, heap_full, out_o
 use Rattle.jlr_laws.proofs.LegalKept.{no_need}
 use Rattle.jlr_histories.proofs.Left.{leaves_the_same}
 use Rattle.jlr_plain_asks.specs.Counts.{HasNextAction}
-use Rattle.jlr_plain_asks.specs.Replaying.{long_reply, or_done}
+use Rattle.jlr_plain_asks.specs.Replaying.{long_reply, or_done, counts_with}
 use Rattle.jlr_plain.specs.declared.record.ShortAnswer.{ShortAnswer}
 use Rattle.jlr_plain.specs.declared.record.ShortAnswer.TheVariants as short
 use Rattle.jlr_plain.specs.declared.record.Record.{Record}
-use Rattle.jlr_plain.specs.Records.{answer_from, entry_in, record_of, replayed, rid_told, short_of}
+use Rattle.jlr_plain.specs.Records.{answer_from, entry_in, has_short_count, number_told, record_of, replayed, short_of}
 use Rattle.jlr_plain.specs.Unseen.{unseen, IsLegalBefore}
 use Rattle.jlr_plain.proofs.Applying.{next_legal}
 
-abbrev is_replayed : ShortAnswer → Bool
-is_replayed short.Replayed = true
-is_replayed s = false
-
+-- the answers that the machine gives once more
 abbrev is_long : Answer → Bool
-is_long a = is_replayed (short_of a)
+is_long (answer.Int n) = true
+is_long (answer.Data bytes) = true
+is_long (answer.Names names) = true
+is_long (answer.Notes notes) = true
+is_long (answer.Faults faults) = true
+is_long (answer.Stat s) = true
+is_long (answer.Job action work) = true
+is_long (answer.Out rid) = true
+is_long a = false
 
 -- ---- Answers that are never long
 
@@ -158,13 +164,18 @@ long_given m e (out_of_memory r) h = absurd (both_ways (is_long e.answer) (ap is
 
 -- ---- A record keeps its entry
 
-answer_kept : (long a : Answer) → (is_long a ≡ true → long ≡ a) → answer_from long (short_of a) (rid_told a) ≡ a
+counts_kept : (long : Answer) (s : Stat) (b : Bool) → long ≡ answer.Stat s
+    → answer_from long (cond b short.Counted short.Replayed) (cond b s.objects 0) ≡ answer.Stat s
+counts_kept long s true h = ap (counts_with s.objects) h
+counts_kept long s false h = h
+
+answer_kept : (long a : Answer) → (is_long a ≡ true → long ≡ a) → answer_from long (short_of a) (number_told a) ≡ a
 answer_kept long (answer.Int n) h = h refl
 answer_kept long (answer.Data bytes) h = h refl
 answer_kept long (answer.Names names) h = h refl
 answer_kept long (answer.Notes notes) h = h refl
 answer_kept long (answer.Faults faults) h = h refl
-answer_kept long (answer.Stat s) h = h refl
+answer_kept long (answer.Stat s) h = counts_kept long s (has_short_count s.objects) (h refl)
 answer_kept long (answer.Job action work) h = h refl
 answer_kept long (answer.Out rid) h = h refl
 answer_kept long a h = refl
@@ -203,7 +214,7 @@ long_unseen m asked = refl
 pub entry_unseen : (m : Machine) (r : Record) → entry_in (unseen m) r ≡ entry_in m r
 entry_unseen m r =
     ap {A = Answer} {B = Entry}
-    (λ a. record { seat = r.seat; ask = r.ask; answer = answer_from a r.answer r.rid; choice = r.choice })
+    (λ a. record { seat = r.seat; ask = r.ask; answer = answer_from a r.answer r.number; choice = r.choice })
     (long_unseen m r.ask)
 
 same_after : (m n : Machine) (e : Entry) → unseen m ≡ unseen n → unseen (apply m e) ≡ unseen (apply n e)
@@ -280,32 +291,57 @@ long_carries n m (ask.Faults k) fresh = refl
 long_carries n m ask.TakeUp fresh = carries n ask.TakeUp _ fresh (long_refuses m ask.TakeUp)
 long_carries n m asked fresh = refl
 
-kept_carries : (n : Machine) (asked : Ask) (long : Answer) (s : ShortAnswer) (rid : ℕ) (fresh : List ℕ)
+counted_refuses : (k : ℕ) (a : Answer) → is_refusal a ≡ false → is_refusal (counts_with k a) ≡ false
+counted_refuses k (answer.Refused by) h = h
+counted_refuses k a h = refl
+
+counted_carries : (n m : Machine) (asked : Ask) (k : ℕ) (fresh : List ℕ)
+    → carried n asked (counts_with k (long_reply m asked)) fresh ≡ carried n asked answer.Done fresh
+counted_carries n m (ask.Int i h f) k fresh = carries n (ask.Int i h f) _ fresh (counted_refuses k _ (long_refuses m (ask.Int i h f)))
+counted_carries n m (ask.Clean i d) k fresh = carries n (ask.Clean i d) _ fresh (counted_refuses k _ (long_refuses m (ask.Clean i d)))
+counted_carries n m (ask.CheckOut i h) k fresh =
+    carries n (ask.CheckOut i h) _ fresh (counted_refuses k _ (long_refuses m (ask.CheckOut i h)))
+counted_carries n m (ask.CheckIn i o) k fresh =
+    carries n (ask.CheckIn i o) _ fresh (counted_refuses k _ (long_refuses m (ask.CheckIn i o)))
+counted_carries n m (ask.Close i h) k fresh = carries n (ask.Close i h) _ fresh (counted_refuses k _ (long_refuses m (ask.Close i h)))
+counted_carries n m (ask.Names i) k fresh = refl
+counted_carries n m (ask.Stat i) k fresh = refl
+counted_carries n m (ask.Notes i) k fresh = refl
+counted_carries n m (ask.Faults i) k fresh = refl
+counted_carries n m ask.TakeUp k fresh = carries n ask.TakeUp _ fresh (counted_refuses k _ (long_refuses m ask.TakeUp))
+counted_carries n m asked k fresh = refl
+
+kept_carries : (n : Machine) (asked : Ask) (long : Answer) (s : ShortAnswer) (number : ℕ) (fresh : List ℕ)
     → carried n asked long fresh ≡ carried n asked answer.Done fresh
-    → carried n asked (answer_from long s rid) fresh ≡ carried n asked (answer_from answer.Done s rid) fresh
-kept_carries n asked long short.Replayed rid fresh h = h
-kept_carries n asked long s rid fresh h = refl
+    → carried n asked (counts_with number long) fresh ≡ carried n asked answer.Done fresh
+    → carried n asked (answer_from long s number) fresh ≡ carried n asked (answer_from answer.Done s number) fresh
+kept_carries n asked long short.Counted number fresh h counted = counted
+kept_carries n asked long short.Replayed number fresh h counted = h
+kept_carries n asked long s number fresh h counted = refl
 
 pub stand_in_carries : (n m : Machine) (r : Record)
-    → carried n r.ask (answer_from (long_reply m r.ask) r.answer r.rid) r.choice.fresh
-    ≡ carried n r.ask (answer_from answer.Done r.answer r.rid) r.choice.fresh
+    → carried n r.ask (answer_from (long_reply m r.ask) r.answer r.number) r.choice.fresh
+    ≡ carried n r.ask (answer_from answer.Done r.answer r.number) r.choice.fresh
 stand_in_carries n m r =
-    kept_carries n r.ask (long_reply m r.ask) r.answer r.rid r.choice.fresh (long_carries n m r.ask r.choice.fresh)
+    let long = long_carries n m r.ask r.choice.fresh in
+    let counted = counted_carries n m r.ask r.number r.choice.fresh in
+    kept_carries n r.ask (long_reply m r.ask) r.answer r.number r.choice.fresh long counted
 
-kept_refuses : (long : Answer) (s : ShortAnswer) (rid : ℕ) → is_refusal long ≡ false
-    → is_refusal (answer_from long s rid) ≡ is_refusal (answer_from answer.Done s rid)
-kept_refuses long short.Replayed rid h = h
-kept_refuses long s rid h = refl
+kept_refuses : (long : Answer) (s : ShortAnswer) (number : ℕ) → is_refusal long ≡ false
+    → is_refusal (answer_from long s number) ≡ is_refusal (answer_from answer.Done s number)
+kept_refuses long short.Counted number h = counted_refuses number long h
+kept_refuses long short.Replayed number h = h
+kept_refuses long s number h = refl
 
 stand_in_refuses : (m : Machine) (r : Record)
-    → is_refusal (entry_in m r).answer ≡ is_refusal (answer_from answer.Done r.answer r.rid)
-stand_in_refuses m r = kept_refuses (long_reply m r.ask) r.answer r.rid (long_refuses m r.ask)
+    → is_refusal (entry_in m r).answer ≡ is_refusal (answer_from answer.Done r.answer r.number)
+stand_in_refuses m r = kept_refuses (long_reply m r.ask) r.answer r.number (long_refuses m r.ask)
 
 -- ---- A record is followed
 
 -- an ask that names an action finds a number for the next
 pub has_next_action : (n : Machine) (r : Record) → IsLegalBefore n (entry_in n r)
-    → is_refusal (answer_from answer.Done r.answer r.rid) ≡ false → HasNextAction n.next_action r.ask
+    → is_refusal (answer_from answer.Done r.answer r.number) ≡ false → HasNextAction n.next_action r.ask
 has_next_action n r before stays =
     subst (λ (x : Machine). HasNextAction x.next_action r.ask) (sym before.same)
     (next_legal before.machine (entry_in n r) before.legal (stand_in_refuses n r ∙ stays))

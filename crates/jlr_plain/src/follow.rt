@@ -68,6 +68,7 @@ fn follow_collecting(
     Ok(())
 }
 
+#[tactic(auto, using(crate::proofs::Records::stand_in_carries))]
 fn follow_either(alloc: Global, machine: &mut Machine, kept: &Record) -> Result<(), AllocError>
     requires { IsLegalBefore machine.old (entry_in machine.old kept.now) }
     ensures ok { OnOk result (unseen machine.new ≡ unseen (apply machine.old (entry_in machine.old kept.now))) }

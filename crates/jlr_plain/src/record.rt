@@ -1,14 +1,15 @@
 //! Entries as a history keeps them: without the answers that take much room and that the machine gives once more.
-ghost use Rattle.std.specs.Prelude.{◌≡◌};
+ghost use Rattle.std.specs.Prelude.{◌≡◌, cond};
 ghost use Rattle.jlr_machine.specs.declared.ask.Answer.TheVariants.{Done};
-ghost use Rattle.jlr_plain.specs.Records.{answer_from, record_of, rid_told, short_of};
+ghost use Rattle.jlr_plain.specs.declared.record.ShortAnswer.TheVariants.{Counted, Replayed};
+ghost use Rattle.jlr_plain.specs.Records.{answer_from, has_short_count, number_told, record_of, short_of};
 
 use jlr_machine::ask::{Answer, Ask, Handed};
 use jlr_machine::entry::Chosen;
 use jlr_machine::text::WriteCount;
 use jlr_types::{Fault, Handle, Refusal, Rid};
 
-/// An answer that takes a byte at most, or none where it is replayed. The Rid of a `Prepared` stands beside it.
+/// An answer that takes a byte at most, or none where it is replayed. A number stands beside it.
 #[derive(Clone, Copy, PartialEq, Eq, Debug)]
 pub enum ShortAnswer {
     Done,
@@ -20,7 +21,9 @@ pub enum ShortAnswer {
     Prepared,
     Handed(Handed),
     Refused(Refusal),
-    /// A number, a list, counts, a job, a resource, or what was read: the machine gives it once more.
+    /// Counts: the machine gives them once more, but for the objects, whose number stands beside it.
+    Counted,
+    /// A number, a list, a job, a resource, or what was read: the machine gives it once more.
     Replayed,
 }
 
@@ -30,8 +33,8 @@ pub struct Record {
     /// The seat that asked.
     pub seat: u8,
     pub answer: ShortAnswer,
-    /// The Rid of a `Prepared`, else 0.
-    pub rid: Rid,
+    /// The Rid of a `Prepared`, the objects of a `Counted`, else 0.
+    pub number: u32,
     pub ask: Ask,
     pub choice: Chosen,
 }
@@ -45,7 +48,7 @@ impl Record {
         Record {
             seat,
             answer: short(answer),
-            rid: rid(answer),
+            number: number(answer),
             ask,
             choice,
         }
@@ -67,32 +70,51 @@ fn short(answer: &Answer) -> ShortAnswer
         Answer::Prepared(_) => ShortAnswer::Prepared,
         Answer::Handed(handed) => ShortAnswer::Handed(*handed),
         Answer::Refused(by) => ShortAnswer::Refused(*by),
+        Answer::Stat(counts) => counted(counts.objects),
         _ => ShortAnswer::Replayed,
     }
 }
 
+fn has_short_count(objects: u64) -> bool
+    ensures { result ≡ has_short_count objects }
+{
+    objects < 1 << 32
+}
+
+fn counted(objects: u64) -> ShortAnswer
+    ensures { result ≡ cond (has_short_count objects) Counted Replayed }
+{
+    if has_short_count(objects) {
+        ShortAnswer::Counted
+    } else {
+        ShortAnswer::Replayed
+    }
+}
+
+/// The number that stands beside what is kept.
 #[inline(always)]
-fn rid(answer: &Answer) -> Rid
-    ensures { result ≡ rid_told answer.now }
+fn number(answer: &Answer) -> u32
+    ensures { result ≡ number_told answer.now }
 {
     match answer {
-        Answer::Prepared(rid) => *rid,
-        _ => Rid::new(0),
+        Answer::Prepared(rid) => rid.number(),
+        Answer::Stat(counts) if has_short_count(counts.objects) => counts.objects as u32,
+        _ => 0,
     }
 }
 
 /// An answer that changes the machine as that of the record does: `Done` in the place of one that is replayed.
 pub(crate) fn stand_in(kept: &Record) -> Answer
-    ensures { result ≡ answer_from Done kept.now.answer kept.now.rid }
+    ensures { result ≡ answer_from Done kept.now.answer kept.now.number }
 {
     match kept.answer {
-        ShortAnswer::Done | ShortAnswer::Replayed => Answer::Done,
+        ShortAnswer::Done | ShortAnswer::Counted | ShortAnswer::Replayed => Answer::Done,
         ShortAnswer::Handle(handle) => Answer::Handle(handle),
         ShortAnswer::Truth(truth) => Answer::Truth(truth),
         ShortAnswer::Wrote(count) => Answer::Wrote(count),
         ShortAnswer::Faulted(fault) => Answer::Faulted(fault),
         ShortAnswer::AlreadyDone => Answer::AlreadyDone,
-        ShortAnswer::Prepared => Answer::Prepared(kept.rid),
+        ShortAnswer::Prepared => Answer::Prepared(Rid::new(kept.number)),
         ShortAnswer::Handed(handed) => Answer::Handed(handed),
         ShortAnswer::Refused(by) => Answer::Refused(by),
     }

@@ -5,7 +5,7 @@ ghost use Rattle.jlr_plain.specs.Records.{entry_in};
 use crate::record::{Record, ShortAnswer, stand_in};
 use jlr_machine::ask::Answer;
 use jlr_machine::machine::Machine;
-use jlr_plain_asks::answers::replaying::replay_reply;
+use jlr_plain_asks::answers::replaying::{replay_counts, replay_reply};
 use std::alloc::{AllocError, Global};
 
 /// The answer of the entry that a record keeps, in the machine in which it came.
@@ -16,6 +16,7 @@ pub fn replay_answer(alloc: Global, machine: &Machine, kept: &Record) -> Result<
     ensures { IfOk result (λ answer. answer ≡ (entry_in machine.now kept.now).answer) }
 {
     match kept.answer {
+        ShortAnswer::Counted => replay_counts(alloc, machine, &kept.ask, u64::from(kept.number)),
         ShortAnswer::Replayed => replay_reply(alloc, machine, &kept.ask),
         _ => Ok(stand_in(kept)),
     }

@@ -1,9 +1,9 @@
 //! Whether a collection is a legal one.
-ghost use Rattle.std.specs.Prelude.{◌≡◌, ℕ, ◌<◌, ◌↔◌, IsTrue, length, [], not, ◌||◌, IfOk, is_some};
+ghost use Rattle.std.specs.Prelude.{◌≡◌, ℕ, ◌<◌, length, [], not, ◌||◌, IfOk, is_some};
 ghost use Rattle.std.specs.List.{list_all};
 ghost use Rattle.jlr_machine.specs.Objects.{◌∋◌, ◌∈◌, at, is_distinct, is_rising, any_referent};
 ghost use Rattle.jlr_machine.specs.Edges.{edges_from};
-ghost use Rattle.jlr_machine.specs.Collection.{is_ready, IsCollection};
+ghost use Rattle.jlr_machine.specs.Collection.{is_ready};
 ghost use Rattle.jlr_machine.specs.ReachSet.{reach_set};
 ghost use Rattle.jlr_machine.specs.Edges.Chain.{Strong};
 ghost use Rattle.jlr_plain_collections.specs.Marks.{has_mark, IsTable, chain_of};
@@ -273,6 +273,8 @@ pub(crate) fn listed(
     SlotList::from_vec(alloc, objects.len(), copy_slice(alloc, slots)?)
 }
 
+/// Whether a collection that counts the base as reachable may keep these and hand those over; one that is not `softly`
+/// done clears all soft references.
 pub(crate) fn tested(
     alloc: Global,
     objects: &Table<Object>,
@@ -288,21 +290,7 @@ pub(crate) fn tested(
     is_cut_off(alloc, objects, base, &kept, pending, softly)
 }
 
-/// Whether a collection that counts the base as reachable may keep these and hand those over.
-pub(crate) fn is_collection_plain(
-    alloc: Global,
-    objects: &Table<Object>,
-    base: &[Slot],
-    kept: &[Slot],
-    pending: &[Slot],
-) -> Result<bool, AllocError>
-    requires { IsWithinHeap objects.now base.now }
-    ensures { IfOk result (λ b. IsTrue b ↔ IsCollection objects.now base.now kept.now pending.now) }
-{
-    tested(alloc, objects, base, kept, pending, true)
-}
-
-/// Whether one that also clears all soft references may.
+/// The same of one that clears all soft references.
 pub(crate) fn is_clearing_plain(
     alloc: Global,
     objects: &Table<Object>,

@@ -1,7 +1,6 @@
 //! Whether the collection of an entry is legal in a machine.
-ghost use Rattle.std.specs.Prelude.{◌≡◌, ◌≤◌, ◌^◌, ◌↔◌, IsTrue, IfOk, length};
+ghost use Rattle.std.specs.Prelude.{◌≡◌, ◌≤◌, ◌^◌, IfOk, length};
 ghost use Rattle.jlr_machine.specs.Edges.{roots};
-ghost use Rattle.jlr_machine.specs.Collection.{IsFull, IsFullClearing, IsBackground};
 ghost use Rattle.jlr_laws.specs.Laws.{IsWithinHeap, IsSeenWithin};
 ghost use Rattle.jlr_laws.specs.Deciding.{is_full, is_full_clearing, is_background};
 
@@ -11,6 +10,10 @@ use jlr_machine::entry::Collected;
 use jlr_machine::machine::Machine;
 use std::alloc::{AllocError, Global};
 
+/// Whether it is a full collection.
+///
+/// # Errors
+/// `AllocError` where there is no memory for the sets.
 pub fn full_tested(alloc: Global, machine: &Machine, c: &Collected) -> Result<bool, AllocError>
     requires cells { length machine.now.objects ≤ 2 ^ 32 }
     requires within { IsWithinHeap machine.now.objects (roots machine.now) }
@@ -28,6 +31,10 @@ pub fn full_tested(alloc: Global, machine: &Machine, c: &Collected) -> Result<bo
     )
 }
 
+/// Whether it is a full collection that clears all soft references.
+///
+/// # Errors
+/// `AllocError` where there is no memory for the sets.
 pub fn clearing_tested(alloc: Global, machine: &Machine, c: &Collected) -> Result<bool, AllocError>
     requires cells { length machine.now.objects ≤ 2 ^ 32 }
     requires within { IsWithinHeap machine.now.objects (roots machine.now) }
@@ -44,6 +51,10 @@ pub fn clearing_tested(alloc: Global, machine: &Machine, c: &Collected) -> Resul
     )
 }
 
+/// Whether it is a background collection.
+///
+/// # Errors
+/// `AllocError` where there is no memory for the sets.
 pub fn background_tested(
     alloc: Global,
     machine: &Machine,
@@ -62,44 +73,4 @@ pub fn background_tested(
         kept.as_slice(),
         c.pending.as_slice(),
     )
-}
-
-/// Whether it is a full collection.
-pub(crate) fn is_full_plain(
-    alloc: Global,
-    machine: &Machine,
-    c: &Collected,
-) -> Result<bool, AllocError>
-    requires cells { length machine.now.objects ≤ 2 ^ 32 }
-    requires within { IsWithinHeap machine.now.objects (roots machine.now) }
-    ensures { IfOk result (λ b. IsTrue b ↔ IsFull machine.now c.now.kept c.now.pending) }
-{
-    full_tested(alloc, machine, c)
-}
-
-/// Whether it is a full collection that clears all soft references.
-pub(crate) fn is_full_clearing_plain(
-    alloc: Global,
-    machine: &Machine,
-    c: &Collected,
-) -> Result<bool, AllocError>
-    requires cells { length machine.now.objects ≤ 2 ^ 32 }
-    requires within { IsWithinHeap machine.now.objects (roots machine.now) }
-    ensures { IfOk result (λ b. IsTrue b ↔ IsFullClearing machine.now c.now.kept c.now.pending) }
-{
-    clearing_tested(alloc, machine, c)
-}
-
-/// Whether it is a background collection.
-pub(crate) fn is_background_collection_plain(
-    alloc: Global,
-    machine: &Machine,
-    c: &Collected,
-) -> Result<bool, AllocError>
-    requires cells { length machine.now.objects ≤ 2 ^ 32 }
-    requires within { IsWithinHeap machine.now.objects (roots machine.now) }
-    requires seen { IsSeenWithin machine.now }
-    ensures { IfOk result (λ b. IsTrue b ↔ IsBackground machine.now c.now.kept c.now.pending) }
-{
-    background_tested(alloc, machine, c)
 }

@@ -8,7 +8,7 @@ ghost use Rattle.jlr_machine.specs.Names.{is_name_byte};
 
 use crate::fault::ReadError;
 use crate::number::{
-    bool_at, byte_within, i64_at, picked, slot_option_at, u8_at, u16_at, u16_within, u32_at, u64_at,
+    bool_at, byte_within, i64_at, picked, slot_option_at, u8_at, u16_within, u32_at, u64_at,
 };
 use crate::text::{data_at, name_at};
 use jlr_machine::data::Data;
@@ -21,15 +21,6 @@ pub fn take_u8(bytes: &mut &[u8]) -> Result<u8, ReadError>
     ensures { Reads (λ x. x) result bytes.new.now (byte_at bytes.old.now) }
 {
     let (value, rest) = u8_at(bytes)?;
-    *bytes = rest;
-    Ok(value)
-}
-
-/// A number of two bytes.
-pub(crate) fn take_u16(bytes: &mut &[u8]) -> Result<u16, ReadError>
-    ensures { Reads (λ x. x) result bytes.new.now (number_at w16 bytes.old.now) }
-{
-    let (value, rest) = u16_at(bytes)?;
     *bytes = rest;
     Ok(value)
 }

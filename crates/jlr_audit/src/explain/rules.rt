@@ -76,8 +76,9 @@ fn is_answered_by_choice(ask: &Ask) -> bool {
 fn when_carried_out(alloc: Global, machine: &Machine, entry: &Entry) -> Result<String, AllocError> {
     let cells = cells_of(&entry.ask);
     if !fresh_slots(&machine.objects, cells, entry.choice.fresh().as_slice()) {
+        let objects = if cells == 1 { "object" } else { "objects" };
         return Ok(format!(in alloc;
-            "it makes {cells} objects, each in a free cell of its own, and the entry tells others"
+            "it makes {cells} {objects}, each in a free cell of its own, and the entry tells others"
         )?);
     }
     if !is_answered_by_choice(&entry.ask) && !is_reply(machine, &entry.ask, &entry.answer) {

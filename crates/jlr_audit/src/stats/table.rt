@@ -46,7 +46,8 @@ fn push_figure(
 /// Adds what all collections did.
 fn push_collections(alloc: Global, text: &mut String, figures: &Figures) -> Result<(), AllocError> {
     let total = figures.total;
-    push_figure(alloc, text, "\nCollections", figures.collections)?;
+    text.push_str("\n")?;
+    push_figure(alloc, text, "Collections", figures.collections)?;
     push_figure(alloc, text, "objects freed", total.freed)?;
     push_figure(alloc, text, "soft references kept", total.soft_kept)?;
     push_figure(alloc, text, "soft references cleared", total.soft_cleared)?;
@@ -68,14 +69,16 @@ fn push_collections(alloc: Global, text: &mut String, figures: &Figures) -> Resu
 /// Adds the queues, files and actions.
 fn push_rest(alloc: Global, text: &mut String, figures: &Figures) -> Result<(), AllocError> {
     let outcomes = figures.outcomes;
-    push_figure(alloc, text, "\nLongest queue", figures.longest_queue)?;
+    text.push_str("\n")?;
+    push_figure(alloc, text, "Longest queue", figures.longest_queue)?;
     push_figure(
         alloc,
         text,
         "files and sockets open at most",
         figures.most_open,
     )?;
-    push_figure(alloc, text, "\nActions that ended well", outcomes.ok)?;
+    text.push_str("\n")?;
+    push_figure(alloc, text, "Actions that ended well", outcomes.ok)?;
     push_figure(alloc, text, "that failed: notfound", outcomes.not_found)?;
     push_figure(alloc, text, "that failed: denied", outcomes.denied)?;
     push_figure(alloc, text, "that failed: other", outcomes.other)

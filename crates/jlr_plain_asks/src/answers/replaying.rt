@@ -4,15 +4,15 @@ ghost use Rattle.jlr_machine.specs.Objects.{as_cleanable};
 ghost use Rattle.jlr_machine.specs.Lookups.{bound_names, cleanable_at, cleanable_of_guard, guard_named, object_named};
 ghost use Rattle.jlr_machine.specs.Calls.{call_answer, line_answer, number_in, stat_of, take_up_answer};
 ghost use Rattle.jlr_machine.specs.declared.ask.Answer.TheVariants.{Out};
-ghost use Rattle.jlr_plain_asks.specs.Replaying.{long_reply, or_done};
+ghost use Rattle.jlr_plain_asks.specs.Replaying.{long_reply, or_done, counts_with};
 
 use crate::answers::handing::line_from;
-use crate::answers::replies::counts_of;
+use crate::answers::replies::{counts_beside, counts_of};
 use crate::lookups::{
     cleanable_in, cleanable_of, guarded_cleanable, named_field, named_guard, named_object,
 };
 use crate::refusals::is_spent_state;
-use jlr_machine::ask::{Answer, Ask, CallOutcome, Handed};
+use jlr_machine::ask::{Answer, Ask, CallOutcome, Handed, Stat};
 use jlr_machine::copy::copy_items;
 use jlr_machine::items::Items;
 use jlr_machine::machine::{Binding, Machine};
@@ -132,5 +132,26 @@ pub fn replay_reply(alloc: Global, machine: &Machine, ask: &Ask) -> Result<Answe
         Ask::Faults { .. } => Answer::Faults(copy_items(alloc, &machine.faults)?),
         Ask::TakeUp => taken_told(machine, line_from(machine, machine.line.as_slice())),
         _ => Answer::Done,
+    })
+}
+
+/// The same for counts, where the number of objects is known: the cells are not counted.
+///
+/// # Errors
+/// `AllocError` where there is no memory for the answer.
+pub fn replay_counts(
+    alloc: Global,
+    machine: &Machine,
+    ask: &Ask,
+    objects: u64,
+) -> Result<Answer, AllocError>
+    ensures { IfOk result (λ answer. answer ≡ counts_with objects (long_reply machine.now ask.now)) }
+{
+    if let Ask::Stat { .. } = ask {
+        return Ok(Answer::Stat(counts_beside(machine, objects)));
+    }
+    Ok(match replay_reply(alloc, machine, ask)? {
+        Answer::Stat(counts) => Answer::Stat(Stat { objects, ..counts }),
+        answer => answer,
     })
 }

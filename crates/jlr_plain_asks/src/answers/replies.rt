@@ -9,6 +9,7 @@ ghost use Rattle.jlr_machine.specs.Calls.{hand_over_answer, line_answer, stat_of
 ghost use Rattle.jlr_machine.specs.declared.ask.Answer.TheVariants.{Done, Truth, Stat as StatAnswer};
 ghost use Rattle.jlr_machine.specs.Objects.{is_queued};
 ghost use Rattle.jlr_laws.specs.Same.{same_answer};
+ghost use Rattle.jlr_plain_asks.specs.Replaying.{counts_with};
 
 use crate::answers::answers::{
     is_already_done, is_done, is_faulted, is_faults, is_given_out, is_handed, is_handle, is_int,
@@ -251,8 +252,15 @@ fn gives_taken(machine: &Machine, line: &[Slot], answer: &Answer) -> bool
 pub(crate) fn counts_of(machine: &Machine) -> Stat
     ensures { StatAnswer result ≡ stat_of machine.now }
 {
+    counts_beside(machine, occupied_cells(machine.objects.as_slice()) as u64)
+}
+
+/// The counts of a machine, with this number of objects.
+pub(crate) fn counts_beside(machine: &Machine, objects: u64) -> Stat
+    ensures { StatAnswer result ≡ counts_with objects (stat_of machine.now) }
+{
     Stat {
-        objects: occupied_cells(machine.objects.as_slice()) as u64,
+        objects,
         resources: machine.resources.len() as u64,
         taken: machine.taken,
         ok: machine.ok,

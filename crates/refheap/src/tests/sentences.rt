@@ -127,9 +127,9 @@ pub(super) const LISTS: &str = "
     0900 00 00 0201 01 00000000 00000000 -> same 0 0 of mutator 0, answered yes: \
     its collection may not come here, or keeps or hands over other objects than it may
     0200 00 0101 00 -> new - of mutator 0, answered handle 1: \
-    it makes 1 objects, each in a free cell of its own, and the entry tells others
+    it makes 1 object, each in a free cell of its own, and the entry tells others
     0200 00 0101 02 01 00000010 -> new - of mutator 0, answered handle 1: \
-    it makes 1 objects, each in a free cell of its own, and the entry tells others
+    it makes 1 object, each in a free cell of its own, and the entry tells others
     1600 0d 00000000 02 02 00000000 00000000 -> prepare of mutator 0, answered a place for a resource: \
     it makes 2 objects, each in a free cell of its own, and the entry tells others
     1600 00 02 02 00000000 00000001 -> prepare of mutator 0, answered ok: its answer is none that may be given
