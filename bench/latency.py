@@ -5,7 +5,8 @@
 
 The client asks `new rr` and the drop of it by turns, each after the reply to the one before, over heaps of 1,024 and 65,536 cells of which a
 chain or a graph takes five eighths, and over 1,000 arrays of 4,096 elements. Beside it: nothing; a client that makes garbage, so that the
-marker is at work, with three budgets; cuts of the history, with four lengths of `--trace`; a flood of `gc`; 63 other clients.
+marker is at work, with three budgets; cuts of the history, with four lengths of `--trace`; a flood of `gc`; 63 other clients; eight that come and go
+while they wait; one that fills the tables of handles, of names and of files until they refuse more, and empties them.
 """
 import argparse
 import os
@@ -25,19 +26,22 @@ BESIDE = (
     ("cuts, --trace 10,000", "none", 0, 64, 10_000),
     ("a flood of gc", "gc", 1, 64, 1_000_000),
     ("63 clients", "same", 63, 64, 1_000_000),
+    ("8 that vanish", "vanish", 8, 64, 1_000_000),
+    ("full tables", "tables", 1, 64, 1_000_000),
 )
 
 
 def told(program, tool, shape, cells, requests, others, count, budget, trace):
     """What the client says of a server that is started for it."""
     with tempfile.TemporaryDirectory() as folder:
-        path = os.path.join(folder, "socket")
-        words = [program, "serve", "--socket", path, "--total", str(count + 1), "--sessions", str(count + 1), "--cells", str(cells),
+        path, control = os.path.join(folder, "socket"), os.path.join(folder, "control")
+        words = [program, "serve", "--socket", path, "--control", control, "--total", "1000000", "--sessions", str(count + 1), "--cells", str(cells),
                  "--budget", str(budget), "--trace", str(trace)]
         server = subprocess.Popen(words, stdout=subprocess.DEVNULL)
-        while not os.path.exists(path):
+        while not os.path.exists(control):
             time.sleep(0.01)
         said = subprocess.check_output([tool, path, shape, str(cells), str(requests), others, str(count)], text=True)
+        subprocess.check_call([program, "stop", control])
         server.wait(60)
         return said.split()
 

@@ -1,6 +1,6 @@
 // What `latency.py` compiles: a client that builds a heap and then times its own requests, while other clients do something else.
 //   latency PATH SHAPE CELLS REQUESTS OTHERS COUNT
-// SHAPE is chain, graph or arrays; OTHERS is none, garbage, gc or same, asked by COUNT clients without a pause. Prints the microseconds
+// SHAPE is chain, graph or arrays; OTHERS is none, garbage, gc, same, vanish or tables, done by COUNT clients without a pause. Prints the microseconds
 // of the median, of 99 and 99.9 in a hundred, and of the longest of the requests.
 use std::io::{Read, Write};
 use std::os::unix::net::UnixStream;
@@ -23,10 +23,16 @@ impl Client {
     }
 
     fn ask(&mut self, line: &str) -> String {
+        let told = self.told(line);
+        assert!(!told.is_empty() && !told.starts_with('!'), "{}: {}", line, told);
+        told
+    }
+
+    // the reply, which may be a refusal
+    fn told(&mut self, line: &str) -> String {
         self.stream.write_all(line.as_bytes()).unwrap();
         let mut bytes = [0u8; 512];
         let count = self.stream.read(&mut bytes).unwrap();
-        assert!(count > 0 && bytes[0] != b'!', "{line}: {}", String::from_utf8_lossy(&bytes[..count]));
         String::from_utf8_lossy(&bytes[..count]).into_owned()
     }
 
@@ -97,7 +103,42 @@ fn arrays(client: &mut Client, count: usize) {
     }
 }
 
+// fills the tables of handles, of names, and of files and sockets, until each refuses more, and empties them
+fn tables(client: &mut Client) {
+    while client.told("queue\n").starts_with('=') {}
+    for handle in 2..=250 {
+        client.ask(&format!("drop {handle}\n"));
+    }
+    for number in 0..260 {
+        client.told(&format!("bind n{number} 1\n"));
+    }
+    for number in 0..256 {
+        client.ask(&format!("unbind n{number}\n"));
+    }
+    let mut opened = 0;
+    while client.told("open r /etc/passwd\n").starts_with('=') {
+        opened += 1;
+    }
+    for handle in 2..2 + opened {
+        client.ask(&format!("close {handle}\n"));
+        client.ask(&format!("drop {handle}\n"));
+    }
+    client.ask("drop 1\n");
+}
+
+// goes while it waits in `remove`
+fn vanish(path: &str, ends: &AtomicBool) {
+    while !ends.load(Ordering::Relaxed) {
+        let mut client = Client::new(path);
+        client.ask("queue\n");
+        client.stream.write_all(b"remove 1\n").unwrap();
+    }
+}
+
 fn other(path: &str, what: &str, ends: &AtomicBool) {
+    if what == "vanish" {
+        return vanish(path, ends);
+    }
     let mut client = Client::new(path);
     while !ends.load(Ordering::Relaxed) {
         match what {
@@ -108,6 +149,7 @@ fn other(path: &str, what: &str, ends: &AtomicBool) {
             "gc" => {
                 client.ask("gc\n");
             }
+            "tables" => tables(&mut client),
             _ => {
                 client.ask("same 0 0\n");
             }
