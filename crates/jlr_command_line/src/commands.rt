@@ -334,10 +334,10 @@ fn name_argument<'a>(alloc: Global) -> Arg<'a> {
         .help("A command of the line protocol")
 }
 
-/// Whether an audit says why, and how far it is.
+/// Whether an audit says why, or what came before.
 fn explain_option<'a>(alloc: Global) -> Arg<'a> {
     Arg::new(alloc, "explain")
         .long("explain")
-        .help("Says why a history is not legal, and how far the audit of a long one is")
+        .help("Says why a history is not legal, or how many entries came before it")
         .action(ArgAction::SetTrue)
 }
