@@ -103,4 +103,7 @@ def main():
         file.write(front + u64(number) + body)
 
 
-main()
+if __name__ == "__main__":
+    if len(sys.argv) < 2:
+        sys.exit(__doc__)
+    main()

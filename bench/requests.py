@@ -56,4 +56,6 @@ def main(program, rounds=ROUNDS):
 
 
 if __name__ == "__main__":
+    if len(sys.argv) < 2:
+        sys.exit(__doc__)
     main(*sys.argv[1:])

@@ -3,6 +3,10 @@
 # of the folder's name, over the crates that FOLDER/uses lists.
 #     checks/as_crate.sh FOLDER
 set -eu
+if [ $# -ne 1 ]; then
+    echo "usage: checks/as_crate.sh FOLDER" >&2
+    exit 2
+fi
 folder=$(readlink -f "$1")
 name=$(basename "$folder")
 cd "$(dirname "$(readlink -f "$0")")/.."

@@ -11,6 +11,7 @@ import argparse
 import os
 import random
 import re
+import shutil
 import subprocess
 import sys
 import tempfile
@@ -161,6 +162,9 @@ def main():
     asked = parser.parse_args()
     program = os.path.abspath(asked.program)
     right = True
+    if not shutil.which("strace"):
+        print("left    descriptors: strace is missing here")
+        return 0
     for name, (status, seen) in (
         (f"a session of {asked.commands} commands", one_session(program, asked.commands)),
         (f"a server with {asked.clients} clients", many_clients(program, asked.clients, 500)),

@@ -193,4 +193,6 @@ def play(server, folder, total):
 
 
 if __name__ == "__main__":
+    if len(sys.argv) < 2:
+        sys.exit(__doc__)
     sys.exit(0 if main(os.path.abspath(sys.argv[1])) else 1)

@@ -364,4 +364,7 @@ def main():
     sys.exit(1 if WRONG else 0)
 
 
-main()
+if __name__ == "__main__":
+    if len(sys.argv) < 2:
+        sys.exit(__doc__)
+    main()
