@@ -6,7 +6,7 @@
 A session makes N arrays of 4,096 elements (100,000) that are refused, since its 16 cells are full, and another as many that are given up and
 collected: the memory at the end is held against that after the first tenth. A third session, which may have 512 MB, makes arrays in 65,536 cells
 until one is refused because memory ran out (`! 1`): all before it are there, with what they hold, and the session goes on. A server whose
-client gives up 20,000 arrays never holds as many as its 4,096 cells could: the marker sweeps those that it collected.
+client gives up 20,000 arrays takes no more after the first 2,000, though it has 4,096 cells: the marker sweeps those that it collected.
 """
 import argparse
 import os
@@ -20,6 +20,12 @@ import time
 
 LIMIT = 512 * 1024 * 1024
 BATCH = 100
+
+
+def memory_of(process):
+    """What of a process is in memory, in kB."""
+    with open(f"/proc/{process}/status") as status:
+        return next(int(line.split()[1]) for line in status if line.startswith("VmRSS:"))
 
 
 class Session:
@@ -36,9 +42,7 @@ class Session:
         return [self.process.stdout.readline().decode().rstrip("\n") for _ in lines]
 
     def memory(self):
-        """What of it is in memory, in kB."""
-        with open(f"/proc/{self.process.pid}/status") as status:
-            return next(int(line.split()[1]) for line in status if line.startswith("VmRSS:"))
+        return memory_of(self.process.pid)
 
     def close(self):
         self.ask("bye")
@@ -124,12 +128,14 @@ def served(program):
         stream.sendall("".join(line + "\n" for line in asked).encode())
         return [lines.readline().decode().rstrip("\n") for _ in asked]
 
-    for _ in range(200):
+    early = 0
+    for turn in range(200):
         ask(*["array 4096", "drop 1"] * BATCH)
         time.sleep(0.005)
-    with open(f"/proc/{process.pid}/status") as status:
-        most = next(int(line.split()[1]) for line in status if line.startswith("VmHWM:"))
-    faults = said("a server's marker gives the memory of dead arrays back", most < 40_000, f"({most} kB; all its cells would hold 67,000)")
+        if turn == 20:
+            early = memory_of(process.pid)
+    late = memory_of(process.pid)
+    faults = said("a server's marker gives the memory of dead arrays back", late - early < 12_000, f"({early} kB after 2,000, {late} kB after 20,000)")
     ask("bye")
     faults += said("the server ends", process.wait() == 0)
     shutil.rmtree(folder)
