@@ -14,6 +14,8 @@ The file is written from the description of the format in docs/trace-file.md.
 import struct
 import sys
 
+KINDS = ("small", "stat", "gc", "along", "cycle")
+
 
 def u8(n):
     return struct.pack(">B", n)
@@ -104,6 +106,6 @@ def main():
 
 
 if __name__ == "__main__":
-    if len(sys.argv) < 2:
+    if len(sys.argv) < 4 or sys.argv[1] not in KINDS:
         sys.exit(__doc__)
     main()
