@@ -407,7 +407,7 @@ impl<R: Drop, L: Naming + Limited> Seat<R, L> {
     }
 
     /// One `Remove`, asked once its queue holds something, or once the hall is to end. The client at the seat is looked
-    /// after while it waits; where nobody can, or where it is gone, the ask is declined: nothing is taken off the queue.
+    /// after while it waits; where nobody can, or it is gone, the ask is declined: nothing is taken off the queue.
     pub(crate) fn remove<T: Wait, V: Vigil>(
         &mut self,
         rt: &T,

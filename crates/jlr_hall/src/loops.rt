@@ -100,9 +100,9 @@ impl<R: Drop, L: Naming + Limited> Hall<R, L> {
 }
 
 /// Begins a cycle where one is due, which it looks at and asks under one taking of the lock. Marks it in pieces of at
-/// most so many cells, collects it once all is marked, and sweeps what that removed in such pieces, until the hall is to
-/// end. Each ask and each piece has the lock for itself, so that the sessions go on between them. A cycle that something
-/// else has closed is left; where an ask is refused it waits for the next event.
+/// most so many cells, collects it once all is marked, and sweeps what that removed in such pieces, until the hall is
+/// to end. Each ask and each piece has the lock for itself, so that the sessions go on between them. A cycle that
+/// something else has closed is left; where an ask is refused it waits for the next event.
 pub fn marker_loop<R: Drop, L: Naming + Limited, T: Wait>(
     seat: Seat<R, L>,
     rt: &T,
