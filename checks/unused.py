@@ -3,8 +3,8 @@
 
     checks/unused.py
 
-What only itself and imports name is of no use. Left out are laws, the answers of proofs, lemmas that the prover finds by their names (`OF-WHAT`)
-or of itself, tests, and what programs outside call: the exports for C and the heap in process. Ends with status 1 where something is of no use.
+What only itself and imports name is of no use. Left out are laws, the answers of proofs, lemmas that the prover finds by their names (`OF-WHAT`),
+three that it may find of itself, tests, and what programs outside call: the exports for C and the heap in process. Ends with status 1 where something is of no use.
 """
 import collections
 import os
@@ -17,7 +17,8 @@ BODY = re.compile(r"\w+(?:-\w+)*|[^\s\w]")
 MADE = re.compile(r"^\s*((?:abbrev |opaque |pub |record |data )*)([^\s(){}\[\],.;:=]+)(.*)$")
 FUNCTION = re.compile(r"^(?:    pub(?:\(crate\))? |pub(?:\(crate\))? )?(?:const )?fn (\w+)(?!.*\(\)$)")
 SKIPPED = re.compile(r"\s*(?:--|//|(?:ghost )?(?:pub )?use )")
-FOUND_BY_SEARCH = ("record_has_none", "cut_past_front", "ended_fault")
+# A search may use these of itself; whether one does was not tried.
+UNTRIED = ("record_has_none", "cut_past_front", "ended_fault")
 OUTSIDE = ("refheap_c", "jlr_heap", "jlr_embed")
 
 
@@ -69,7 +70,7 @@ def main():
     made, named = [], collections.Counter()
     for path, lines in sources():
         (of_proofs if path.endswith(".antt") else of_bodies)(path, lines, made, named)
-    idle = sorted({(os.path.relpath(path, ROOT), name) for path, name in made if named[name] <= 0 and name not in FOUND_BY_SEARCH})
+    idle = sorted({(os.path.relpath(path, ROOT), name) for path, name in made if named[name] <= 0 and name not in UNTRIED})
     print("\n".join(f"{path}: nothing names {name}" for path, name in idle) if idle else "ok      nothing is of no use")
     sys.exit(bool(idle))
 
