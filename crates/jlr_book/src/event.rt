@@ -1,11 +1,10 @@
 //! What a book has to know of an ask, and how it refuses one by itself.
 ghost use Rattle.std.specs.Prelude.{◌≡◌, None};
 ghost use Rattle.jlr_machine.specs.Refusals.{is_end};
-ghost use Rattle.jlr_event.specs.Events.{resource_of_event};
 ghost use Rattle.jlr_event.specs.declared.event.Reply.TheVariants.{Answered};
 ghost use Rattle.jlr_machine.specs.declared.ask.Answer.TheVariants.{Refused};
 
-use jlr_event::event::{Event, Reply};
+use jlr_event::event::Reply;
 use jlr_machine::ask::{Answer, Ask};
 use jlr_types::Refusal;
 
@@ -19,17 +18,7 @@ pub fn is_end(ask: &Ask) -> bool
     }
 }
 
-/// A refusal by the book itself. What the event carries goes back with it.
-pub fn refuse<R>(event: Event<R>, by: Refusal) -> Reply<R>
-    ensures { result ≡ Answered (Refused by) (resource_of_event event) }
-{
-    Reply::Answered {
-        answer: Answer::Refused(by),
-        resource: event.into_resource(),
-    }
-}
-
-/// The same of an ask that hands in nothing.
+/// A refusal by the book itself of an ask that hands in nothing.
 pub fn decline<R>(by: Refusal) -> Reply<R>
     ensures { result ≡ Answered (Refused by) None }
 {

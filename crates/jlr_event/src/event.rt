@@ -1,7 +1,7 @@
 //! What comes to the core, and what goes back: an ask or an answer with the resource that it carries.
 ghost use Rattle.std.specs.Prelude.{◌≡◌, false};
 ghost use Rattle.jlr_event.specs.Asks.{hands_in};
-ghost use Rattle.jlr_event.specs.Events.{answer_in, outcome_of, resource_of_event, resource_of_reply};
+ghost use Rattle.jlr_event.specs.Events.{answer_in, outcome_of, resource_of_reply};
 
 use jlr_machine::ask::{Answer, Ask, CallOutcome, Outcome};
 use jlr_types::{Fault, Mutator, Progress};
@@ -85,17 +85,6 @@ impl<R> Event<R> {
         ensures { result ≡ Event.Ask ask }
     {
         Event::Ask(PlainAsk { ask })
-    }
-
-    /// The resource that an event hands in, if one is.
-    pub fn into_resource(self) -> Option<R>
-        ensures { result ≡ resource_of_event self }
-    {
-        match self {
-            Event::Opened { outcome, .. } => outcome.ok(),
-            Event::CheckIn { resource, .. } => Some(resource),
-            Event::Ask(_) | Event::Mark { .. } => None,
-        }
     }
 }
 

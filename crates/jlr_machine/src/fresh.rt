@@ -77,14 +77,4 @@ impl FreshSlots {
     {
         self.count = 0;
     }
-
-    /// The same slots again.
-    pub fn copy(&self) -> Self
-        ensures { result ≡ self.now }
-    {
-        FreshSlots {
-            slots: self.slots,
-            count: self.count,
-        }
-    }
 }

@@ -79,18 +79,6 @@ impl KeptSlots {
         slots.extend_from_slice(self.strays.as_slice())?;
         Ok(slots)
     }
-
-    /// The same list.
-    ///
-    /// # Errors
-    /// `AllocError` where there is no memory.
-    pub fn copy(&self, alloc: Global) -> Result<Self, AllocError>
-        ensures { IfOk result (λ copy. copy ≡ self.now) }
-    {
-        let set = self.set.copy(alloc)?;
-        let strays = copy_slice(alloc, self.strays.as_slice())?;
-        Ok(KeptSlots { set, strays })
-    }
 }
 
 /// What is true of the number of each slot.

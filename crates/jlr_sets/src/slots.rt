@@ -156,18 +156,6 @@ impl SlotSet {
         Ok(slots)
     }
 
-    /// The same set once more.
-    ///
-    /// # Errors
-    /// `AllocError` where there is no memory.
-    pub fn copy(&self, alloc: Global) -> Result<SlotSet, AllocError>
-        ensures { IfOk result (λ copy. copy ≡ self.now) }
-    {
-        Ok(SlotSet {
-            words: self.words.to_vec(alloc)?,
-        })
-    }
-
     /// Gives up the places behind the last word that is not 0, and their memory. The slots stay.
     pub fn trim(&mut self)
         ensures slots { slots_of self.new ≡ slots_of self.old }

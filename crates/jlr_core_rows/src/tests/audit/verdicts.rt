@@ -5,8 +5,7 @@ ghost use Rattle.jlr_trace.specs.Files.{HasSpelling};
 use super::player::{Telling, play_rows};
 use jlr_audit::audit::audit;
 use jlr_audit::verdict::Verdict;
-use jlr_machine::copies::{copy_entries, copy_machine};
-use jlr_machine::items::Items;
+use jlr_machine::copies::copy_machine;
 use jlr_trace::file::{TraceFault, TraceFile, read_trace};
 use jlr_trace::writing::write_trace;
 use std::alloc::{AllocError, Global};
@@ -180,7 +179,7 @@ fn are_written_as(alloc: Global, file: &mut TraceFile, bytes: &[u8]) -> Result<b
     requires { HasSpelling file.old }
 {
     let same = is_written_as(alloc, file, bytes)?;
-    put_copies(alloc, file)?;
+    put_copied_image(alloc, file)?;
     Ok(same && is_written_as(alloc, file, bytes)?)
 }
 
@@ -190,14 +189,12 @@ fn is_written_as(alloc: Global, file: &TraceFile, bytes: &[u8]) -> Result<bool, 
     Ok(write_trace(alloc, file)?.as_slice() == bytes)
 }
 
-// Copies in the place of the image and of the entries.
-fn put_copies(alloc: Global, file: &mut TraceFile) -> Result<(), AllocError>
+// A copy in the place of the image.
+fn put_copied_image(alloc: Global, file: &mut TraceFile) -> Result<(), AllocError>
     ensures { file.new ≡ file.old }
 {
     let image = copy_machine(alloc, &file.image)?;
     drop(mem::replace(&mut file.image, image));
-    let entries = copy_entries(alloc, file.entries.as_slice())?;
-    drop(mem::replace(&mut file.entries, Items::from_vec(entries)));
     Ok(())
 }
 

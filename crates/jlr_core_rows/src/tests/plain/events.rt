@@ -3,7 +3,6 @@
 //! arrow. Each operand of a row is another number, so that none can stand for another.
 use jlr_event::event::{Event, Reply};
 use jlr_machine::ask::{Answer, Ask};
-use jlr_machine::copies::copy_ask;
 use std::alloc::{AllocError, Global};
 use std::test::Fail;
 
@@ -148,14 +147,9 @@ fn told_again(alloc: Global, event: Event<u32>) -> Result<String, AllocError> {
 
 fn asked(alloc: Global, ask: Option<Ask>) -> Result<String, AllocError> {
     match ask {
-        Some(ask) => copy_told(alloc, &ask),
+        Some(ask) => ask_text(alloc, &ask),
         None => String::from_str(alloc, "none"),
     }
-}
-
-fn copy_told(alloc: Global, ask: &Ask) -> Result<String, AllocError> {
-    let copy = copy_ask(alloc, ask)?;
-    ask_text(alloc, &copy)
 }
 
 fn reply_told(alloc: Global, given: &str) -> Result<String, AllocError> {

@@ -97,8 +97,8 @@ fn is_name(bytes: &[u8]) -> bool {
 fn can_be_kept(alloc: Global, numbers: &[u32]) -> Result<bool, AllocError> {
     let slots = slots(alloc, numbers)?;
     let kept = KeptSlots::from_slice(alloc, slots.as_slice())?;
-    let copy = kept.copy(alloc)?.to_vec(alloc)?;
-    Ok(kept.len() == numbers.len() && copy.as_slice() == slots.as_slice())
+    let list = kept.to_vec(alloc)?;
+    Ok(kept.len() == numbers.len() && list.as_slice() == slots.as_slice())
 }
 
 #[test]

@@ -1,5 +1,5 @@
 use Rattle.std.proofs.Common.{◌≡◌, take}
-use Rattle.jlr_machine.proofs.copies.machine.copy_places.Given as goal
+use Rattle.jlr_machine.proofs.copies.copy_places.Given as goal
 
 abbrev pub invariant-loop-place : goal.invariant-loop-place
 invariant-loop-place l = l.out.items ≡ take l.place-index l.places
