@@ -6,6 +6,5 @@ mod asks;
 mod collections;
 pub mod figures;
 pub mod json;
-mod kind;
 mod kinds;
 pub mod table;

@@ -13,10 +13,11 @@ use Rattle.jlr_trace_fields.specs.declared.fault.Fault.TheVariants.{Range}
 use Rattle.jlr_trace_fields.specs.declared.version.Version.{Version}
 use Rattle.jlr_trace_fields.specs.declared.version.Version.TheVariants.{One, Two}
 use Rattle.jlr_machine.specs.Names.{is_name_byte}
+use Rattle.jlr_machine.specs.AskKinds.{ask_kinds}
 use Rattle.jlr_trace_fields.specs.Items.{items_at}
 use Rattle.jlr_trace_fields.specs.Tables.{ref_kinds, faults}
 use Rattle.jlr_trace_entries.specs.Asks.{outcomes_by_number, modes, kind_read, layout_read, call_outcome_behind, call_outcome_read}
-use Rattle.jlr_trace_entries.specs.Asks.{field_read, ask_tags}
+use Rattle.jlr_trace_entries.specs.Asks.{field_read}
 use Rattle.jlr_trace_entries.specs.Asks.{array_read, ask_body, ask_read}
 use Rattle.jlr_trace.specs.Steady.{IsSteady}
 use Rattle.jlr_trace.proofs.Steps.{◌▸◌, made, never, then_read, either, one, two, three, four}
@@ -52,7 +53,7 @@ array One = record { still = never.still }
 array Two = record { still = (two byte (number_within w16 1 4096) Array).still }
 
 -- what stands behind each number of an ask, in the order of the table
-bodies : (version : Version) → AllByRecursion (λ tag. IsSteady (ask_body version tag)) ask_tags
+bodies : (version : Version) → AllByRecursion (λ tag. IsSteady (ask_body version tag)) ask_kinds
 bodies version =
     record { still = (one byte Join).still }
     ▸ record { still = (one byte Leave).still }
@@ -100,4 +101,4 @@ bodies version =
 
 pub ask : (version : Version) → IsSteady (ask_read version)
 unfolding ask_read
-ask version = picked_then 0 ask_tags (ask_body version) (bodies version)
+ask version = picked_then 0 ask_kinds (ask_body version) (bodies version)

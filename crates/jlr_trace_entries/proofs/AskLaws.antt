@@ -33,30 +33,25 @@ use Rattle.jlr_trace_fields.proofs.Products.{then_takes, made_takes, one_takes, 
 use Rattle.jlr_trace_fields.proofs.Products.{two_again, three_again, four_again}
 use Rattle.jlr_trace_fields.proofs.TableLaws.{ref_kind, fault}
 use Rattle.jlr_trace_fields.proofs.Records.{name}
-use Rattle.jlr_trace_entries.specs.declared.asks.tag.Tag.{Tag}
-use Rattle.jlr_trace_entries.specs.declared.asks.tag.Tag.TheVariants.{Join as TagJoin, Leave as TagLeave, New as TagNew, Put as TagPut}
-use Rattle.jlr_trace_entries.specs.declared.asks.tag.Tag.TheVariants.{Get as TagGet}
-use Rattle.jlr_trace_entries.specs.declared.asks.tag.Tag.TheVariants.{SetInt as TagSetInt, Int as TagInt, Dup as TagDup, Drop as TagDrop}
-use Rattle.jlr_trace_entries.specs.declared.asks.tag.Tag.TheVariants.{Same as TagSame}
-use Rattle.jlr_trace_entries.specs.declared.asks.tag.Tag.TheVariants.{MakeRef as TagMakeRef, Deref as TagDeref, Refers as TagRefers}
-use Rattle.jlr_trace_entries.specs.declared.asks.tag.Tag.TheVariants.{Clear as TagClear}
-use Rattle.jlr_trace_entries.specs.declared.asks.tag.Tag.TheVariants.{Enqueue as TagEnqueue, Enqueued as TagEnqueued}
-use Rattle.jlr_trace_entries.specs.declared.asks.tag.Tag.TheVariants.{MakeQueue as TagMakeQueue}
-use Rattle.jlr_trace_entries.specs.declared.asks.tag.Tag.TheVariants.{Poll as TagPoll, Remove as TagRemove, MakeCleaner as TagMakeCleaner}
-use Rattle.jlr_trace_entries.specs.declared.asks.tag.Tag.TheVariants.{Register as TagRegister, Clean as TagClean, Prepare as TagPrepare}
-use Rattle.jlr_trace_entries.specs.declared.asks.tag.Tag.TheVariants.{Opened as TagOpened, CheckOut as TagCheckOut, CheckIn as TagCheckIn}
-use Rattle.jlr_trace_entries.specs.declared.asks.tag.Tag.TheVariants.{Close as TagClose, Finish as TagFinish, Bind as TagBind}
-use Rattle.jlr_trace_entries.specs.declared.asks.tag.Tag.TheVariants.{Find as TagFind}
-use Rattle.jlr_trace_entries.specs.declared.asks.tag.Tag.TheVariants.{Unbind as TagUnbind, Names as TagNames, Full as TagFull}
-use Rattle.jlr_trace_entries.specs.declared.asks.tag.Tag.TheVariants.{Stat as TagStat}
-use Rattle.jlr_trace_entries.specs.declared.asks.tag.Tag.TheVariants.{Notes as TagNotes, Faults as TagFaults, HandOver as TagHandOver}
-use Rattle.jlr_trace_entries.specs.declared.asks.tag.Tag.TheVariants.{TakeUp as TagTakeUp, Begin as TagBegin, Collect as TagCollect}
-use Rattle.jlr_trace_entries.specs.declared.asks.tag.Tag.TheVariants.{Abandon as TagAbandon, Array as TagArray}
+use Rattle.jlr_machine.specs.declared.kind.AskKind.{AskKind}
+use Rattle.jlr_machine.specs.AskKinds.{ask_kinds}
+use Rattle.jlr_machine.specs.declared.kind.AskKind.TheVariants.{Join as ToJoin, Leave as ToLeave, New as ToNew, Put as ToPut, Get as ToGet}
+use Rattle.jlr_machine.specs.declared.kind.AskKind.TheVariants.{SetInt as ToSetInt, Int as ToInt, Dup as ToDup, Drop as ToDrop}
+use Rattle.jlr_machine.specs.declared.kind.AskKind.TheVariants.{Same as ToSame, MakeRef as ToMakeRef, Deref as ToDeref, Refers as ToRefers}
+use Rattle.jlr_machine.specs.declared.kind.AskKind.TheVariants.{Clear as ToClear, Enqueue as ToEnqueue, Enqueued as ToEnqueued}
+use Rattle.jlr_machine.specs.declared.kind.AskKind.TheVariants.{MakeQueue as ToMakeQueue, Poll as ToPoll, Remove as ToRemove}
+use Rattle.jlr_machine.specs.declared.kind.AskKind.TheVariants.{MakeCleaner as ToMakeCleaner, Register as ToRegister, Clean as ToClean}
+use Rattle.jlr_machine.specs.declared.kind.AskKind.TheVariants.{Prepare as ToPrepare, Opened as ToOpened, CheckOut as ToCheckOut}
+use Rattle.jlr_machine.specs.declared.kind.AskKind.TheVariants.{CheckIn as ToCheckIn, Close as ToClose, Finish as ToFinish, Bind as ToBind}
+use Rattle.jlr_machine.specs.declared.kind.AskKind.TheVariants.{Find as ToFind, Unbind as ToUnbind, Names as ToNames, Full as ToFull}
+use Rattle.jlr_machine.specs.declared.kind.AskKind.TheVariants.{Stat as ToStat, Notes as ToNotes, Faults as ToFaults}
+use Rattle.jlr_machine.specs.declared.kind.AskKind.TheVariants.{HandOver as ToHandOver, TakeUp as ToTakeUp, Begin as ToBegin}
+use Rattle.jlr_machine.specs.declared.kind.AskKind.TheVariants.{Collect as ToCollect, Abandon as ToAbandon, Array as ToArray}
 use Rattle.jlr_trace_entries.specs.Asks.{outcomes_by_number, outcome_number, modes, mode_number, spelled_kind, spelled_layout, kind_read}
 use Rattle.jlr_trace_entries.specs.Asks.{layout_read}
 use Rattle.jlr_trace_entries.specs.Asks.{spelled_call_outcome, CallOutcomeFits, call_outcome_behind, call_outcome_read, spelled_field}
 use Rattle.jlr_trace_entries.specs.Asks.{FieldFits}
-use Rattle.jlr_trace_entries.specs.Asks.{field_read, spelled_ask, AskFits, ask_tags, array_read, ask_body, ask_read}
+use Rattle.jlr_trace_entries.specs.Asks.{field_read, spelled_ask, AskFits, array_read, ask_body, ask_read}
 
 -- ---- Tables
 
@@ -187,120 +182,120 @@ element_count = number_within w16 (2 ^ 16) 1 4096 (omega arith) two_bytes
 
 -- ---- Asks
 
-abbrev tag_number : Tag → ℕ
-tag_number TagJoin = 0
-tag_number TagLeave = 1
-tag_number TagNew = 2
-tag_number TagPut = 3
-tag_number TagGet = 4
-tag_number TagSetInt = 5
-tag_number TagInt = 6
-tag_number TagDup = 7
-tag_number TagDrop = 8
-tag_number TagSame = 9
-tag_number TagMakeRef = 10
-tag_number TagDeref = 11
-tag_number TagRefers = 12
-tag_number TagClear = 13
-tag_number TagEnqueue = 14
-tag_number TagEnqueued = 15
-tag_number TagMakeQueue = 16
-tag_number TagPoll = 17
-tag_number TagRemove = 18
-tag_number TagMakeCleaner = 19
-tag_number TagRegister = 20
-tag_number TagClean = 21
-tag_number TagPrepare = 22
-tag_number TagOpened = 23
-tag_number TagCheckOut = 24
-tag_number TagCheckIn = 25
-tag_number TagClose = 26
-tag_number TagFinish = 27
-tag_number TagBind = 28
-tag_number TagFind = 29
-tag_number TagUnbind = 30
-tag_number TagNames = 31
-tag_number TagFull = 32
-tag_number TagStat = 33
-tag_number TagNotes = 34
-tag_number TagFaults = 35
-tag_number TagHandOver = 36
-tag_number TagTakeUp = 37
-tag_number TagBegin = 38
-tag_number TagCollect = 39
-tag_number TagAbandon = 40
-tag_number TagArray = 41
+abbrev kind_number : AskKind → ℕ
+kind_number ToJoin = 0
+kind_number ToLeave = 1
+kind_number ToNew = 2
+kind_number ToPut = 3
+kind_number ToGet = 4
+kind_number ToSetInt = 5
+kind_number ToInt = 6
+kind_number ToDup = 7
+kind_number ToDrop = 8
+kind_number ToSame = 9
+kind_number ToMakeRef = 10
+kind_number ToDeref = 11
+kind_number ToRefers = 12
+kind_number ToClear = 13
+kind_number ToEnqueue = 14
+kind_number ToEnqueued = 15
+kind_number ToMakeQueue = 16
+kind_number ToPoll = 17
+kind_number ToRemove = 18
+kind_number ToMakeCleaner = 19
+kind_number ToRegister = 20
+kind_number ToClean = 21
+kind_number ToPrepare = 22
+kind_number ToOpened = 23
+kind_number ToCheckOut = 24
+kind_number ToCheckIn = 25
+kind_number ToClose = 26
+kind_number ToFinish = 27
+kind_number ToBind = 28
+kind_number ToFind = 29
+kind_number ToUnbind = 30
+kind_number ToNames = 31
+kind_number ToFull = 32
+kind_number ToStat = 33
+kind_number ToNotes = 34
+kind_number ToFaults = 35
+kind_number ToHandOver = 36
+kind_number ToTakeUp = 37
+kind_number ToBegin = 38
+kind_number ToCollect = 39
+kind_number ToAbandon = 40
+kind_number ToArray = 41
 
 array_takes : (version : Version) → TakesBehind (41 ∷ []) (array_read version) (spelled_ask version) (AskFits version)
 array_takes One = λ bs x rest fits e. absurd cc
 array_takes Two = two_takes byte element_count (41 ∷ []) Array (spelled_ask Two) (AskFits Two) (λ a b. refl) (λ a b p q. (p, q))
 
-body_takes : (version : Version) (tag : Tag) → TakesBehind (tag_number tag ∷ []) (ask_body version tag) (spelled_ask version)
+body_takes : (version : Version) (kind : AskKind) → TakesBehind (kind_number kind ∷ []) (ask_body version kind) (spelled_ask version)
     (AskFits version)
-body_takes version TagJoin = one_takes byte (0 ∷ []) Join (spelled_ask version) (AskFits version) (λ a. refl) (λ a p. p)
-body_takes version TagLeave = one_takes byte (1 ∷ []) Leave (spelled_ask version) (AskFits version) (λ a. refl) (λ a p. p)
-body_takes version TagNew = two_takes byte layout (2 ∷ []) New (spelled_ask version) (AskFits version) (λ a b. refl) (λ a b p q. (p, q))
-body_takes version TagPut = four_takes byte byte (field version) byte (3 ∷ []) Put (spelled_ask version) (AskFits version) (λ a b c d. refl)
+body_takes version ToJoin = one_takes byte (0 ∷ []) Join (spelled_ask version) (AskFits version) (λ a. refl) (λ a p. p)
+body_takes version ToLeave = one_takes byte (1 ∷ []) Leave (spelled_ask version) (AskFits version) (λ a. refl) (λ a p. p)
+body_takes version ToNew = two_takes byte layout (2 ∷ []) New (spelled_ask version) (AskFits version) (λ a b. refl) (λ a b p q. (p, q))
+body_takes version ToPut = four_takes byte byte (field version) byte (3 ∷ []) Put (spelled_ask version) (AskFits version) (λ a b c d. refl)
     (λ a b c d p q r s. (p, q, r, s))
-body_takes version TagGet =
+body_takes version ToGet =
     three_takes byte byte (field version) (4 ∷ []) Get (spelled_ask version) (AskFits version) (λ a b c. refl) (λ a b c p q r. (p, q, r))
-body_takes version TagSetInt = four_takes byte byte (field version) signed (5 ∷ []) SetInt (spelled_ask version) (AskFits version)
+body_takes version ToSetInt = four_takes byte byte (field version) signed (5 ∷ []) SetInt (spelled_ask version) (AskFits version)
     (λ a b c d. refl) (λ a b c d p q r s. (p, q, r, s))
-body_takes version TagInt =
+body_takes version ToInt =
     three_takes byte byte (field version) (6 ∷ []) Int (spelled_ask version) (AskFits version) (λ a b c. refl) (λ a b c p q r. (p, q, r))
-body_takes version TagDup = two_takes byte byte (7 ∷ []) Dup (spelled_ask version) (AskFits version) (λ a b. refl) (λ a b p q. (p, q))
-body_takes version TagDrop = two_takes byte byte (8 ∷ []) Drop (spelled_ask version) (AskFits version) (λ a b. refl) (λ a b p q. (p, q))
-body_takes version TagSame =
+body_takes version ToDup = two_takes byte byte (7 ∷ []) Dup (spelled_ask version) (AskFits version) (λ a b. refl) (λ a b p q. (p, q))
+body_takes version ToDrop = two_takes byte byte (8 ∷ []) Drop (spelled_ask version) (AskFits version) (λ a b. refl) (λ a b p q. (p, q))
+body_takes version ToSame =
     three_takes byte byte byte (9 ∷ []) Same (spelled_ask version) (AskFits version) (λ a b c. refl) (λ a b c p q r. (p, q, r))
-body_takes version TagMakeRef = four_takes byte ref_kind byte byte (10 ∷ []) MakeRef (spelled_ask version) (AskFits version)
+body_takes version ToMakeRef = four_takes byte ref_kind byte byte (10 ∷ []) MakeRef (spelled_ask version) (AskFits version)
     (λ a b c d. refl) (λ a b c d p q r s. (p, r, s))
-body_takes version TagDeref = two_takes byte byte (11 ∷ []) Deref (spelled_ask version) (AskFits version) (λ a b. refl) (λ a b p q. (p, q))
-body_takes version TagRefers =
+body_takes version ToDeref = two_takes byte byte (11 ∷ []) Deref (spelled_ask version) (AskFits version) (λ a b. refl) (λ a b p q. (p, q))
+body_takes version ToRefers =
     three_takes byte byte byte (12 ∷ []) Refers (spelled_ask version) (AskFits version) (λ a b c. refl) (λ a b c p q r. (p, q, r))
-body_takes version TagClear = two_takes byte byte (13 ∷ []) Clear (spelled_ask version) (AskFits version) (λ a b. refl) (λ a b p q. (p, q))
-body_takes version TagEnqueue =
+body_takes version ToClear = two_takes byte byte (13 ∷ []) Clear (spelled_ask version) (AskFits version) (λ a b. refl) (λ a b p q. (p, q))
+body_takes version ToEnqueue =
     two_takes byte byte (14 ∷ []) Enqueue (spelled_ask version) (AskFits version) (λ a b. refl) (λ a b p q. (p, q))
-body_takes version TagEnqueued =
+body_takes version ToEnqueued =
     two_takes byte byte (15 ∷ []) Enqueued (spelled_ask version) (AskFits version) (λ a b. refl) (λ a b p q. (p, q))
-body_takes version TagMakeQueue = one_takes byte (16 ∷ []) MakeQueue (spelled_ask version) (AskFits version) (λ a. refl) (λ a p. p)
-body_takes version TagPoll = two_takes byte byte (17 ∷ []) Poll (spelled_ask version) (AskFits version) (λ a b. refl) (λ a b p q. (p, q))
-body_takes version TagRemove =
+body_takes version ToMakeQueue = one_takes byte (16 ∷ []) MakeQueue (spelled_ask version) (AskFits version) (λ a. refl) (λ a p. p)
+body_takes version ToPoll = two_takes byte byte (17 ∷ []) Poll (spelled_ask version) (AskFits version) (λ a b. refl) (λ a b p q. (p, q))
+body_takes version ToRemove =
     two_takes byte byte (18 ∷ []) Remove (spelled_ask version) (AskFits version) (λ a b. refl) (λ a b p q. (p, q))
-body_takes version TagMakeCleaner = one_takes byte (19 ∷ []) MakeCleaner (spelled_ask version) (AskFits version) (λ a. refl) (λ a p. p)
-body_takes version TagRegister = four_takes byte byte byte four_bytes (20 ∷ []) Register (spelled_ask version) (AskFits version)
+body_takes version ToMakeCleaner = one_takes byte (19 ∷ []) MakeCleaner (spelled_ask version) (AskFits version) (λ a. refl) (λ a p. p)
+body_takes version ToRegister = four_takes byte byte byte four_bytes (20 ∷ []) Register (spelled_ask version) (AskFits version)
     (λ a b c d. refl) (λ a b c d p q r s. (p, q, r, s))
-body_takes version TagClean = two_takes byte byte (21 ∷ []) Clean (spelled_ask version) (AskFits version) (λ a b. refl) (λ a b p q. (p, q))
-body_takes version TagPrepare = one_takes byte (22 ∷ []) Prepare (spelled_ask version) (AskFits version) (λ a. refl) (λ a p. p)
-body_takes version TagOpened = two_takes byte outcome (23 ∷ []) Opened (spelled_ask version) (AskFits version) (λ a b. refl) (λ a b p q. p)
-body_takes version TagCheckOut =
+body_takes version ToClean = two_takes byte byte (21 ∷ []) Clean (spelled_ask version) (AskFits version) (λ a b. refl) (λ a b p q. (p, q))
+body_takes version ToPrepare = one_takes byte (22 ∷ []) Prepare (spelled_ask version) (AskFits version) (λ a. refl) (λ a p. p)
+body_takes version ToOpened = two_takes byte outcome (23 ∷ []) Opened (spelled_ask version) (AskFits version) (λ a b. refl) (λ a b p q. p)
+body_takes version ToCheckOut =
     two_takes byte byte (24 ∷ []) CheckOut (spelled_ask version) (AskFits version) (λ a b. refl) (λ a b p q. (p, q))
-body_takes version TagCheckIn =
+body_takes version ToCheckIn =
     two_takes byte call_outcome (25 ∷ []) CheckIn (spelled_ask version) (AskFits version) (λ a b. refl) (λ a b p q. (p, q))
-body_takes version TagClose = two_takes byte byte (26 ∷ []) Close (spelled_ask version) (AskFits version) (λ a b. refl) (λ a b p q. (p, q))
-body_takes version TagFinish =
+body_takes version ToClose = two_takes byte byte (26 ∷ []) Close (spelled_ask version) (AskFits version) (λ a b. refl) (λ a b p q. (p, q))
+body_takes version ToFinish =
     three_takes byte eight_bytes outcome (27 ∷ []) Finish (spelled_ask version) (AskFits version) (λ a b c. refl) (λ a b c p q r. (p, q))
-body_takes version TagBind =
+body_takes version ToBind =
     three_takes byte name byte (28 ∷ []) Bind (spelled_ask version) (AskFits version) (λ a b c. refl) (λ a b c p q r. (p, q, r))
-body_takes version TagFind = two_takes byte name (29 ∷ []) Find (spelled_ask version) (AskFits version) (λ a b. refl) (λ a b p q. (p, q))
-body_takes version TagUnbind =
+body_takes version ToFind = two_takes byte name (29 ∷ []) Find (spelled_ask version) (AskFits version) (λ a b. refl) (λ a b p q. (p, q))
+body_takes version ToUnbind =
     two_takes byte name (30 ∷ []) Unbind (spelled_ask version) (AskFits version) (λ a b. refl) (λ a b p q. (p, q))
-body_takes version TagNames = one_takes byte (31 ∷ []) Names (spelled_ask version) (AskFits version) (λ a. refl) (λ a p. p)
-body_takes version TagFull = two_takes byte mode (32 ∷ []) Full (spelled_ask version) (AskFits version) (λ a b. refl) (λ a b p q. p)
-body_takes version TagStat = one_takes byte (33 ∷ []) Stat (spelled_ask version) (AskFits version) (λ a. refl) (λ a p. p)
-body_takes version TagNotes = one_takes byte (34 ∷ []) Notes (spelled_ask version) (AskFits version) (λ a. refl) (λ a p. p)
-body_takes version TagFaults = one_takes byte (35 ∷ []) Faults (spelled_ask version) (AskFits version) (λ a. refl) (λ a p. p)
-body_takes version TagHandOver = made_takes (36 ∷ []) HandOver (spelled_ask version) (AskFits version) refl tt
-body_takes version TagTakeUp = made_takes (37 ∷ []) TakeUp (spelled_ask version) (AskFits version) refl tt
-body_takes version TagBegin = made_takes (38 ∷ []) Begin (spelled_ask version) (AskFits version) refl tt
-body_takes version TagCollect = made_takes (39 ∷ []) Collect (spelled_ask version) (AskFits version) refl tt
-body_takes version TagAbandon = made_takes (40 ∷ []) Abandon (spelled_ask version) (AskFits version) refl tt
-body_takes version TagArray = array_takes version
+body_takes version ToNames = one_takes byte (31 ∷ []) Names (spelled_ask version) (AskFits version) (λ a. refl) (λ a p. p)
+body_takes version ToFull = two_takes byte mode (32 ∷ []) Full (spelled_ask version) (AskFits version) (λ a b. refl) (λ a b p q. p)
+body_takes version ToStat = one_takes byte (33 ∷ []) Stat (spelled_ask version) (AskFits version) (λ a. refl) (λ a p. p)
+body_takes version ToNotes = one_takes byte (34 ∷ []) Notes (spelled_ask version) (AskFits version) (λ a. refl) (λ a p. p)
+body_takes version ToFaults = one_takes byte (35 ∷ []) Faults (spelled_ask version) (AskFits version) (λ a. refl) (λ a p. p)
+body_takes version ToHandOver = made_takes (36 ∷ []) HandOver (spelled_ask version) (AskFits version) refl tt
+body_takes version ToTakeUp = made_takes (37 ∷ []) TakeUp (spelled_ask version) (AskFits version) refl tt
+body_takes version ToBegin = made_takes (38 ∷ []) Begin (spelled_ask version) (AskFits version) refl tt
+body_takes version ToCollect = made_takes (39 ∷ []) Collect (spelled_ask version) (AskFits version) refl tt
+body_takes version ToAbandon = made_takes (40 ∷ []) Abandon (spelled_ask version) (AskFits version) refl tt
+body_takes version ToArray = array_takes version
 
 ask_takes : (version : Version) → TakesSpelled (ask_read version) (spelled_ask version) (AskFits version)
 unfolding ask_read
 ask_takes version bs x rest fits e =
-    let a = bind_ok (picked_at 0 ask_tags bs) (λ tag. ask_body version tag.0 tag.1) (x, rest) e in
-    let t = picked_takes 0 ask_tags tag_number refl bs a.0.0 a.0.1 fits a.1 in
+    let a = bind_ok (picked_at 0 ask_kinds bs) (λ kind. ask_body version kind.0 kind.1) (x, rest) e in
+    let t = picked_takes 0 ask_kinds kind_number refl bs a.0.0 a.0.1 fits a.1 in
     let r = body_takes version a.0.0 a.0.1 x rest t.rest_fits a.2 in
     (record { parts = t.parts ∙ r.0.parts; rest_fits = r.0.rest_fits }, r.1)
 

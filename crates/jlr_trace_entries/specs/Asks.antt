@@ -32,32 +32,26 @@ use Rattle.jlr_machine.specs.Names.{is_name_byte}
 use Rattle.jlr_trace_fields.specs.Items.{items_at}
 use Rattle.jlr_trace_fields.specs.Tables.{ref_kinds, ref_kind_number, faults, fault_number}
 use Rattle.jlr_trace_fields.specs.Records.{NameFits}
-use Rattle.jlr_trace_entries.specs.declared.asks.tag.Tag.{Tag}
-use Rattle.jlr_trace_entries.specs.declared.asks.tag.Tag.TheVariants.{Join as TagJoin, Leave as TagLeave, New as TagNew}
-use Rattle.jlr_trace_entries.specs.declared.asks.tag.Tag.TheVariants.{Put as TagPut, Get as TagGet, SetInt as TagSetInt}
-use Rattle.jlr_trace_entries.specs.declared.asks.tag.Tag.TheVariants.{Int as TagInt, Dup as TagDup, Drop as TagDrop}
-use Rattle.jlr_trace_entries.specs.declared.asks.tag.Tag.TheVariants.{Same as TagSame}
-use Rattle.jlr_trace_entries.specs.declared.asks.tag.Tag.TheVariants.{MakeRef as TagMakeRef, Deref as TagDeref}
-use Rattle.jlr_trace_entries.specs.declared.asks.tag.Tag.TheVariants.{Refers as TagRefers}
-use Rattle.jlr_trace_entries.specs.declared.asks.tag.Tag.TheVariants.{Clear as TagClear, Enqueue as TagEnqueue}
-use Rattle.jlr_trace_entries.specs.declared.asks.tag.Tag.TheVariants.{Enqueued as TagEnqueued}
-use Rattle.jlr_trace_entries.specs.declared.asks.tag.Tag.TheVariants.{MakeQueue as TagMakeQueue}
-use Rattle.jlr_trace_entries.specs.declared.asks.tag.Tag.TheVariants.{Poll as TagPoll, Remove as TagRemove}
-use Rattle.jlr_trace_entries.specs.declared.asks.tag.Tag.TheVariants.{MakeCleaner as TagMakeCleaner}
-use Rattle.jlr_trace_entries.specs.declared.asks.tag.Tag.TheVariants.{Register as TagRegister}
-use Rattle.jlr_trace_entries.specs.declared.asks.tag.Tag.TheVariants.{Clean as TagClean, Prepare as TagPrepare}
-use Rattle.jlr_trace_entries.specs.declared.asks.tag.Tag.TheVariants.{Opened as TagOpened}
-use Rattle.jlr_trace_entries.specs.declared.asks.tag.Tag.TheVariants.{CheckOut as TagCheckOut, CheckIn as TagCheckIn}
-use Rattle.jlr_trace_entries.specs.declared.asks.tag.Tag.TheVariants.{Close as TagClose, Finish as TagFinish}
-use Rattle.jlr_trace_entries.specs.declared.asks.tag.Tag.TheVariants.{Bind as TagBind}
-use Rattle.jlr_trace_entries.specs.declared.asks.tag.Tag.TheVariants.{Find as TagFind, Unbind as TagUnbind}
-use Rattle.jlr_trace_entries.specs.declared.asks.tag.Tag.TheVariants.{Names as TagNames}
-use Rattle.jlr_trace_entries.specs.declared.asks.tag.Tag.TheVariants.{Full as TagFull, Stat as TagStat}
-use Rattle.jlr_trace_entries.specs.declared.asks.tag.Tag.TheVariants.{Notes as TagNotes}
-use Rattle.jlr_trace_entries.specs.declared.asks.tag.Tag.TheVariants.{Faults as TagFaults, HandOver as TagHandOver}
-use Rattle.jlr_trace_entries.specs.declared.asks.tag.Tag.TheVariants.{TakeUp as TagTakeUp, Begin as TagBegin}
-use Rattle.jlr_trace_entries.specs.declared.asks.tag.Tag.TheVariants.{Collect as TagCollect}
-use Rattle.jlr_trace_entries.specs.declared.asks.tag.Tag.TheVariants.{Abandon as TagAbandon, Array as TagArray}
+use Rattle.jlr_machine.specs.declared.kind.AskKind.{AskKind}
+use Rattle.jlr_machine.specs.AskKinds.{ask_kinds}
+use Rattle.jlr_machine.specs.declared.kind.AskKind.TheVariants.{Join as ToJoin, Leave as ToLeave, New as ToNew}
+use Rattle.jlr_machine.specs.declared.kind.AskKind.TheVariants.{Put as ToPut, Get as ToGet, SetInt as ToSetInt}
+use Rattle.jlr_machine.specs.declared.kind.AskKind.TheVariants.{Int as ToInt, Dup as ToDup, Drop as ToDrop}
+use Rattle.jlr_machine.specs.declared.kind.AskKind.TheVariants.{Same as ToSame, MakeRef as ToMakeRef, Deref as ToDeref}
+use Rattle.jlr_machine.specs.declared.kind.AskKind.TheVariants.{Refers as ToRefers, Clear as ToClear}
+use Rattle.jlr_machine.specs.declared.kind.AskKind.TheVariants.{Enqueue as ToEnqueue, Enqueued as ToEnqueued}
+use Rattle.jlr_machine.specs.declared.kind.AskKind.TheVariants.{MakeQueue as ToMakeQueue, Poll as ToPoll}
+use Rattle.jlr_machine.specs.declared.kind.AskKind.TheVariants.{Remove as ToRemove, MakeCleaner as ToMakeCleaner}
+use Rattle.jlr_machine.specs.declared.kind.AskKind.TheVariants.{Register as ToRegister, Clean as ToClean}
+use Rattle.jlr_machine.specs.declared.kind.AskKind.TheVariants.{Prepare as ToPrepare, Opened as ToOpened}
+use Rattle.jlr_machine.specs.declared.kind.AskKind.TheVariants.{CheckOut as ToCheckOut, CheckIn as ToCheckIn}
+use Rattle.jlr_machine.specs.declared.kind.AskKind.TheVariants.{Close as ToClose, Finish as ToFinish, Bind as ToBind}
+use Rattle.jlr_machine.specs.declared.kind.AskKind.TheVariants.{Find as ToFind, Unbind as ToUnbind, Names as ToNames}
+use Rattle.jlr_machine.specs.declared.kind.AskKind.TheVariants.{Full as ToFull, Stat as ToStat, Notes as ToNotes}
+use Rattle.jlr_machine.specs.declared.kind.AskKind.TheVariants.{Faults as ToFaults, HandOver as ToHandOver}
+use Rattle.jlr_machine.specs.declared.kind.AskKind.TheVariants.{TakeUp as ToTakeUp, Begin as ToBegin}
+use Rattle.jlr_machine.specs.declared.kind.AskKind.TheVariants.{Collect as ToCollect, Abandon as ToAbandon}
+use Rattle.jlr_machine.specs.declared.kind.AskKind.TheVariants.{Array as ToArray}
 
 -- ---- Tables
 
@@ -232,62 +226,55 @@ AskFits version Collect = Unit {0}
 AskFits version Abandon = Unit {0}
 AskFits version (Array mutator length) = ArrayFits version mutator length
 
-abbrev pub ask_tags : List Tag
-ask_tags = TagJoin ∷ TagLeave ∷ TagNew ∷ TagPut ∷ TagGet ∷ TagSetInt ∷ TagInt ∷ TagDup ∷ TagDrop ∷ TagSame ∷ TagMakeRef
-    ∷ TagDeref ∷ TagRefers ∷ TagClear ∷ TagEnqueue ∷ TagEnqueued ∷ TagMakeQueue ∷ TagPoll ∷ TagRemove ∷ TagMakeCleaner
-    ∷ TagRegister ∷ TagClean ∷ TagPrepare ∷ TagOpened ∷ TagCheckOut ∷ TagCheckIn ∷ TagClose ∷ TagFinish ∷ TagBind
-    ∷ TagFind ∷ TagUnbind ∷ TagNames ∷ TagFull ∷ TagStat ∷ TagNotes ∷ TagFaults ∷ TagHandOver ∷ TagTakeUp ∷ TagBegin
-    ∷ TagCollect ∷ TagAbandon ∷ TagArray ∷ []
-
 -- version 1 has no arrays
 abbrev pub array_read : Version → Reader Ask
 array_read One bytes = Err Range
 array_read Two bytes = two_fields byte_at (number_within_at w16 1 4096) Array bytes
 
 -- what stands behind the number of an ask
-abbrev pub ask_body : Version → Tag → Reader Ask
-ask_body version TagJoin bytes = one_field byte_at Join bytes
-ask_body version TagLeave bytes = one_field byte_at Leave bytes
-ask_body version TagNew bytes = two_fields byte_at layout_read New bytes
-ask_body version TagPut bytes = four_fields byte_at byte_at (field_read version) byte_at Put bytes
-ask_body version TagGet bytes = three_fields byte_at byte_at (field_read version) Get bytes
-ask_body version TagSetInt bytes = four_fields byte_at byte_at (field_read version) signed_at SetInt bytes
-ask_body version TagInt bytes = three_fields byte_at byte_at (field_read version) Int bytes
-ask_body version TagDup bytes = two_fields byte_at byte_at Dup bytes
-ask_body version TagDrop bytes = two_fields byte_at byte_at Drop bytes
-ask_body version TagSame bytes = three_fields byte_at byte_at byte_at Same bytes
-ask_body version TagMakeRef bytes = four_fields byte_at (picked_at 0 ref_kinds) byte_at byte_at MakeRef bytes
-ask_body version TagDeref bytes = two_fields byte_at byte_at Deref bytes
-ask_body version TagRefers bytes = three_fields byte_at byte_at byte_at Refers bytes
-ask_body version TagClear bytes = two_fields byte_at byte_at Clear bytes
-ask_body version TagEnqueue bytes = two_fields byte_at byte_at Enqueue bytes
-ask_body version TagEnqueued bytes = two_fields byte_at byte_at Enqueued bytes
-ask_body version TagMakeQueue bytes = one_field byte_at MakeQueue bytes
-ask_body version TagPoll bytes = two_fields byte_at byte_at Poll bytes
-ask_body version TagRemove bytes = two_fields byte_at byte_at Remove bytes
-ask_body version TagMakeCleaner bytes = one_field byte_at MakeCleaner bytes
-ask_body version TagRegister bytes = four_fields byte_at byte_at byte_at (number_at w32) Register bytes
-ask_body version TagClean bytes = two_fields byte_at byte_at Clean bytes
-ask_body version TagPrepare bytes = one_field byte_at Prepare bytes
-ask_body version TagOpened bytes = two_fields byte_at (picked_at 0 outcomes_by_number) Opened bytes
-ask_body version TagCheckOut bytes = two_fields byte_at byte_at CheckOut bytes
-ask_body version TagCheckIn bytes = two_fields byte_at call_outcome_read CheckIn bytes
-ask_body version TagClose bytes = two_fields byte_at byte_at Close bytes
-ask_body version TagFinish bytes = three_fields byte_at (number_at w64) (picked_at 0 outcomes_by_number) Finish bytes
-ask_body version TagBind bytes = three_fields byte_at (text_at 1 32 is_name_byte) byte_at Bind bytes
-ask_body version TagFind bytes = two_fields byte_at (text_at 1 32 is_name_byte) Find bytes
-ask_body version TagUnbind bytes = two_fields byte_at (text_at 1 32 is_name_byte) Unbind bytes
-ask_body version TagNames bytes = one_field byte_at Names bytes
-ask_body version TagFull bytes = two_fields byte_at (picked_at 0 modes) Full bytes
-ask_body version TagStat bytes = one_field byte_at Stat bytes
-ask_body version TagNotes bytes = one_field byte_at Notes bytes
-ask_body version TagFaults bytes = one_field byte_at Faults bytes
-ask_body version TagHandOver bytes = Ok (HandOver, bytes)
-ask_body version TagTakeUp bytes = Ok (TakeUp, bytes)
-ask_body version TagBegin bytes = Ok (Begin, bytes)
-ask_body version TagCollect bytes = Ok (Collect, bytes)
-ask_body version TagAbandon bytes = Ok (Abandon, bytes)
-ask_body version TagArray bytes = array_read version bytes
+abbrev pub ask_body : Version → AskKind → Reader Ask
+ask_body version ToJoin bytes = one_field byte_at Join bytes
+ask_body version ToLeave bytes = one_field byte_at Leave bytes
+ask_body version ToNew bytes = two_fields byte_at layout_read New bytes
+ask_body version ToPut bytes = four_fields byte_at byte_at (field_read version) byte_at Put bytes
+ask_body version ToGet bytes = three_fields byte_at byte_at (field_read version) Get bytes
+ask_body version ToSetInt bytes = four_fields byte_at byte_at (field_read version) signed_at SetInt bytes
+ask_body version ToInt bytes = three_fields byte_at byte_at (field_read version) Int bytes
+ask_body version ToDup bytes = two_fields byte_at byte_at Dup bytes
+ask_body version ToDrop bytes = two_fields byte_at byte_at Drop bytes
+ask_body version ToSame bytes = three_fields byte_at byte_at byte_at Same bytes
+ask_body version ToMakeRef bytes = four_fields byte_at (picked_at 0 ref_kinds) byte_at byte_at MakeRef bytes
+ask_body version ToDeref bytes = two_fields byte_at byte_at Deref bytes
+ask_body version ToRefers bytes = three_fields byte_at byte_at byte_at Refers bytes
+ask_body version ToClear bytes = two_fields byte_at byte_at Clear bytes
+ask_body version ToEnqueue bytes = two_fields byte_at byte_at Enqueue bytes
+ask_body version ToEnqueued bytes = two_fields byte_at byte_at Enqueued bytes
+ask_body version ToMakeQueue bytes = one_field byte_at MakeQueue bytes
+ask_body version ToPoll bytes = two_fields byte_at byte_at Poll bytes
+ask_body version ToRemove bytes = two_fields byte_at byte_at Remove bytes
+ask_body version ToMakeCleaner bytes = one_field byte_at MakeCleaner bytes
+ask_body version ToRegister bytes = four_fields byte_at byte_at byte_at (number_at w32) Register bytes
+ask_body version ToClean bytes = two_fields byte_at byte_at Clean bytes
+ask_body version ToPrepare bytes = one_field byte_at Prepare bytes
+ask_body version ToOpened bytes = two_fields byte_at (picked_at 0 outcomes_by_number) Opened bytes
+ask_body version ToCheckOut bytes = two_fields byte_at byte_at CheckOut bytes
+ask_body version ToCheckIn bytes = two_fields byte_at call_outcome_read CheckIn bytes
+ask_body version ToClose bytes = two_fields byte_at byte_at Close bytes
+ask_body version ToFinish bytes = three_fields byte_at (number_at w64) (picked_at 0 outcomes_by_number) Finish bytes
+ask_body version ToBind bytes = three_fields byte_at (text_at 1 32 is_name_byte) byte_at Bind bytes
+ask_body version ToFind bytes = two_fields byte_at (text_at 1 32 is_name_byte) Find bytes
+ask_body version ToUnbind bytes = two_fields byte_at (text_at 1 32 is_name_byte) Unbind bytes
+ask_body version ToNames bytes = one_field byte_at Names bytes
+ask_body version ToFull bytes = two_fields byte_at (picked_at 0 modes) Full bytes
+ask_body version ToStat bytes = one_field byte_at Stat bytes
+ask_body version ToNotes bytes = one_field byte_at Notes bytes
+ask_body version ToFaults bytes = one_field byte_at Faults bytes
+ask_body version ToHandOver bytes = Ok (HandOver, bytes)
+ask_body version ToTakeUp bytes = Ok (TakeUp, bytes)
+ask_body version ToBegin bytes = Ok (Begin, bytes)
+ask_body version ToCollect bytes = Ok (Collect, bytes)
+ask_body version ToAbandon bytes = Ok (Abandon, bytes)
+ask_body version ToArray bytes = array_read version bytes
 
 unfoldable pub ask_read : Version → Reader Ask
-ask_read version bytes = picked_at 0 ask_tags bytes >>= λ tag. ask_body version tag.0 tag.1
+ask_read version bytes = picked_at 0 ask_kinds bytes >>= λ kind. ask_body version kind.0 kind.1

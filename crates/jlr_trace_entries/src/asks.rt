@@ -7,5 +7,4 @@ mod field;
 mod layout;
 mod outcome;
 pub mod reading;
-mod tag;
 pub mod writing;

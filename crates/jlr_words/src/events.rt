@@ -4,7 +4,8 @@ use crate::verbs::{Verb, verb_of};
 use crate::words::{byte, field, handle, layout_of, name, number};
 use jlr_event::event::{Event, ended};
 use jlr_machine::ask::Ask;
-use jlr_types::{Handle, Length, Mutator};
+use jlr_machine::kind::AskKind;
+use jlr_types::{Handle, Length, Mutator, RefKind};
 use std::alloc::Global;
 use std::str::SplitWhitespace;
 
@@ -56,24 +57,51 @@ fn asked(
     ask: &str,
     words: &mut SplitWhitespace<'_>,
 ) -> Option<Event<u32>> {
-    let verb = verb_of(ask)?;
-    match verb {
-        Verb::Finish => finish(words),
-        Verb::Opened => opened(mutator, words),
-        Verb::CheckIn => check_in(alloc, mutator, words),
-        Verb::New => Some(new(mutator, words)),
-        Verb::Array => array(mutator, words),
-        Verb::SetInt => set_int(mutator, words),
-        Verb::Register => register(mutator, words),
-        Verb::Bind => bind(mutator, words),
-        Verb::Find => name(words).map(|name| Event::ask(Ask::Find { mutator, name })),
-        Verb::Unbind => name(words).map(|name| Event::ask(Ask::Unbind { mutator, name })),
-        Verb::Put => put(mutator, words),
-        Verb::Get => get(mutator, words),
-        Verb::Int => int(mutator, words),
+    match verb_of(ask)? {
+        Verb::Ask(kind) => of_kind(alloc, mutator, kind, words),
+        Verb::Full(mode) => Some(Event::ask(Ask::Full { mutator, mode })),
         Verb::Mark => mark(words),
-        _ => short(mutator, verb, words),
+        Verb::Reference(kind) => reference(mutator, kind, words),
     }
+}
+
+fn of_kind(
+    alloc: Global,
+    mutator: Mutator,
+    kind: AskKind,
+    words: &mut SplitWhitespace<'_>,
+) -> Option<Event<u32>> {
+    match kind {
+        AskKind::Finish => finish(words),
+        AskKind::Opened => opened(mutator, words),
+        AskKind::CheckIn => check_in(alloc, mutator, words),
+        AskKind::New => Some(new(mutator, words)),
+        AskKind::Array => array(mutator, words),
+        AskKind::SetInt => set_int(mutator, words),
+        AskKind::Register => register(mutator, words),
+        AskKind::Bind => bind(mutator, words),
+        AskKind::Find => name(words).map(|name| Event::ask(Ask::Find { mutator, name })),
+        AskKind::Unbind => name(words).map(|name| Event::ask(Ask::Unbind { mutator, name })),
+        AskKind::Put => put(mutator, words),
+        AskKind::Get => get(mutator, words),
+        AskKind::Int => int(mutator, words),
+        _ => short(mutator, kind, words),
+    }
+}
+
+fn reference(
+    mutator: Mutator,
+    kind: RefKind,
+    words: &mut SplitWhitespace<'_>,
+) -> Option<Event<u32>> {
+    let referent = handle(words)?;
+    let queue = handle(words)?;
+    Some(Event::ask(Ask::MakeRef {
+        mutator,
+        kind,
+        referent,
+        queue,
+    }))
 }
 
 fn new(mutator: Mutator, words: &mut SplitWhitespace<'_>) -> Event<u32> {
@@ -162,77 +190,76 @@ fn mark(words: &mut SplitWhitespace<'_>) -> Option<Event<u32>> {
 }
 
 // An ask of no, one or two numbers.
-fn short(mutator: Mutator, verb: Verb, words: &mut SplitWhitespace<'_>) -> Option<Event<u32>> {
+fn short(mutator: Mutator, kind: AskKind, words: &mut SplitWhitespace<'_>) -> Option<Event<u32>> {
     let Some(first) = words.next() else {
-        return alone(mutator, verb);
+        return alone(mutator, kind);
     };
     let first = first.parse().ok()?;
     match words.next() {
-        None => with_one(mutator, verb, Handle::new(first)),
-        Some(second) => with_two(mutator, verb, Handle::new(first), second.parse().ok()?),
+        None => with_one(mutator, kind, Handle::new(first)),
+        Some(second) => with_two(mutator, kind, Handle::new(first), second.parse().ok()?),
     }
 }
 
-fn alone(mutator: Mutator, verb: Verb) -> Option<Event<u32>> {
-    let event = match verb {
-        Verb::Join => Event::ask(Ask::Join { mutator }),
-        Verb::Leave => Event::ask(Ask::Leave { mutator }),
-        Verb::Queue => Event::ask(Ask::MakeQueue { mutator }),
-        Verb::Cleaner => Event::ask(Ask::MakeCleaner { mutator }),
-        Verb::Prepare => Event::ask(Ask::Prepare { mutator }),
-        Verb::Names => Event::ask(Ask::Names { mutator }),
-        Verb::Full(mode) => Event::ask(Ask::Full { mutator, mode }),
-        Verb::Stat => Event::ask(Ask::Stat { mutator }),
-        Verb::Notes => Event::ask(Ask::Notes { mutator }),
-        Verb::Faults => Event::ask(Ask::Faults { mutator }),
-        Verb::HandOver => Event::ask(Ask::HandOver),
-        Verb::TakeUp => Event::ask(Ask::TakeUp),
-        Verb::Begin => Event::ask(Ask::Begin),
-        Verb::Collect => Event::ask(Ask::Collect),
-        Verb::Abandon => Event::ask(Ask::Abandon),
+fn alone(mutator: Mutator, kind: AskKind) -> Option<Event<u32>> {
+    let event = match kind {
+        AskKind::Join => Event::ask(Ask::Join { mutator }),
+        AskKind::Leave => Event::ask(Ask::Leave { mutator }),
+        AskKind::MakeQueue => Event::ask(Ask::MakeQueue { mutator }),
+        AskKind::MakeCleaner => Event::ask(Ask::MakeCleaner { mutator }),
+        AskKind::Prepare => Event::ask(Ask::Prepare { mutator }),
+        AskKind::Names => Event::ask(Ask::Names { mutator }),
+        AskKind::Stat => Event::ask(Ask::Stat { mutator }),
+        AskKind::Notes => Event::ask(Ask::Notes { mutator }),
+        AskKind::Faults => Event::ask(Ask::Faults { mutator }),
+        AskKind::HandOver => Event::ask(Ask::HandOver),
+        AskKind::TakeUp => Event::ask(Ask::TakeUp),
+        AskKind::Begin => Event::ask(Ask::Begin),
+        AskKind::Collect => Event::ask(Ask::Collect),
+        AskKind::Abandon => Event::ask(Ask::Abandon),
         _ => return None,
     };
     Some(event)
 }
 
-fn with_one(mutator: Mutator, verb: Verb, handle: Handle) -> Option<Event<u32>> {
-    let event = match verb {
-        Verb::Dup => Event::ask(Ask::Dup {
+fn with_one(mutator: Mutator, kind: AskKind, handle: Handle) -> Option<Event<u32>> {
+    let event = match kind {
+        AskKind::Dup => Event::ask(Ask::Dup {
             mutator,
             object: handle,
         }),
-        Verb::Drop => Event::ask(Ask::Drop {
+        AskKind::Drop => Event::ask(Ask::Drop {
             mutator,
             object: handle,
         }),
-        Verb::Clean => Event::ask(Ask::Clean {
+        AskKind::Clean => Event::ask(Ask::Clean {
             mutator,
             cleanable: handle,
         }),
-        Verb::CheckOut => Event::ask(Ask::CheckOut {
+        AskKind::CheckOut => Event::ask(Ask::CheckOut {
             mutator,
             guard: handle,
         }),
-        Verb::Close => Event::ask(Ask::Close {
+        AskKind::Close => Event::ask(Ask::Close {
             mutator,
             guard: handle,
         }),
-        _ => return on_reference(mutator, verb, handle),
+        _ => return on_reference(mutator, kind, handle),
     };
     Some(event)
 }
 
-fn on_reference(mutator: Mutator, verb: Verb, reference: Handle) -> Option<Event<u32>> {
-    let event = match verb {
-        Verb::Deref => Event::ask(Ask::Deref { mutator, reference }),
-        Verb::Clear => Event::ask(Ask::Clear { mutator, reference }),
-        Verb::Enqueue => Event::ask(Ask::Enqueue { mutator, reference }),
-        Verb::Enqueued => Event::ask(Ask::Enqueued { mutator, reference }),
-        Verb::Poll => Event::ask(Ask::Poll {
+fn on_reference(mutator: Mutator, kind: AskKind, reference: Handle) -> Option<Event<u32>> {
+    let event = match kind {
+        AskKind::Deref => Event::ask(Ask::Deref { mutator, reference }),
+        AskKind::Clear => Event::ask(Ask::Clear { mutator, reference }),
+        AskKind::Enqueue => Event::ask(Ask::Enqueue { mutator, reference }),
+        AskKind::Enqueued => Event::ask(Ask::Enqueued { mutator, reference }),
+        AskKind::Poll => Event::ask(Ask::Poll {
             mutator,
             queue: reference,
         }),
-        Verb::Remove => Event::ask(Ask::Remove {
+        AskKind::Remove => Event::ask(Ask::Remove {
             mutator,
             queue: reference,
         }),
@@ -241,20 +268,14 @@ fn on_reference(mutator: Mutator, verb: Verb, reference: Handle) -> Option<Event
     Some(event)
 }
 
-fn with_two(mutator: Mutator, verb: Verb, first: Handle, second: u8) -> Option<Event<u32>> {
-    let event = match verb {
-        Verb::Reference(kind) => Event::ask(Ask::MakeRef {
-            mutator,
-            kind,
-            referent: first,
-            queue: Handle::new(second),
-        }),
-        Verb::Same => Event::ask(Ask::Same {
+fn with_two(mutator: Mutator, kind: AskKind, first: Handle, second: u8) -> Option<Event<u32>> {
+    let event = match kind {
+        AskKind::Same => Event::ask(Ask::Same {
             mutator,
             left: first,
             right: Handle::new(second),
         }),
-        Verb::Refers => Event::ask(Ask::Refers {
+        AskKind::Refers => Event::ask(Ask::Refers {
             mutator,
             reference: first,
             object: Handle::new(second),

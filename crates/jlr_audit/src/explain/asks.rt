@@ -1,137 +1,32 @@
 //! Asks and answers in words.
-use jlr_machine::ask::{Answer, Ask, FullMode, Handed};
-use jlr_plain_asks::operands::{asker_of, name_of};
-use jlr_types::{FieldKind, FieldNo, Handle, Layout, RefKind};
+use crate::names::ask_name;
+use jlr_machine::ask::{Answer, Ask, Handed};
+use jlr_plain_asks::operands::{Named, Operands, asker_of, name_of, operands_of};
+use jlr_types::{FieldKind, Layout};
 use std::alloc::{AllocError, Global};
 use std::str;
 
-/// The name of an ask, and the numbers in it.
-type Words = (&'static str, [Option<u32>; 3]);
-
-fn handle(handle: &Handle) -> Option<u32> {
-    Some(u32::from(handle.number()))
+fn handle(operand: Named) -> Option<u32> {
+    Some(u32::from(operand.handle.number()))
 }
 
-fn place(field: &FieldNo) -> Option<u32> {
-    Some(u32::from(field.number()))
-}
-
-/// Asks on plain objects, arrays and handles.
-fn object_words(ask: &Ask) -> Option<Words> {
-    match ask {
-        Ask::New { .. } => Some(("new", [None, None, None])),
-        Ask::Put {
-            object,
-            field,
-            value,
-            ..
-        } => Some(("put", [handle(object), place(field), handle(value)])),
-        Ask::Get { object, field, .. } => Some(("get", [handle(object), place(field), None])),
-        Ask::SetInt { object, field, .. } => Some(("setint", [handle(object), place(field), None])),
-        Ask::Int { object, field, .. } => Some(("int", [handle(object), place(field), None])),
-        Ask::Array { length, .. } => Some((
-            "array",
-            [Some(u32::from(length.number())), None, None],
-        )),
-        Ask::Dup { object, .. } => Some(("dup", [handle(object), None, None])),
-        Ask::Drop { object, .. } => Some(("drop", [handle(object), None, None])),
-        Ask::Same { left, right, .. } => Some(("same", [handle(left), handle(right), None])),
-        _ => None,
-    }
-}
-
-fn kind_word(kind: RefKind) -> &'static str {
-    match kind {
-        RefKind::Soft => "soft",
-        RefKind::Weak => "weak",
-        RefKind::Phantom => "phantom",
-    }
-}
-
-/// Asks on references and queues.
-fn reference_words(ask: &Ask) -> Option<Words> {
-    match ask {
-        Ask::MakeRef {
-            kind,
-            referent,
-            queue,
-            ..
-        } => Some((kind_word(*kind), [handle(referent), handle(queue), None])),
-        Ask::Deref { reference, .. } => Some(("deref", [handle(reference), None, None])),
-        Ask::Refers {
-            reference,
-            object,
-            ..
-        } => Some(("refers", [handle(reference), handle(object), None])),
-        Ask::Clear { reference, .. } => Some(("clear", [handle(reference), None, None])),
-        Ask::Enqueue { reference, .. } => Some(("enqueue", [handle(reference), None, None])),
-        Ask::Enqueued { reference, .. } => Some(("enqueued", [handle(reference), None, None])),
-        Ask::MakeQueue { .. } => Some(("queue", [None, None, None])),
-        Ask::Poll { queue, .. } => Some(("poll", [handle(queue), None, None])),
-        Ask::Remove { queue, .. } => Some(("remove", [handle(queue), None, None])),
-        _ => None,
-    }
-}
-
-/// Asks on cleaners, files and sockets.
-fn cleaning_words(ask: &Ask) -> Option<Words> {
-    match ask {
-        Ask::MakeCleaner { .. } => Some(("cleaner", [None, None, None])),
-        Ask::Register {
-            cleaner,
-            object,
-            note,
-            ..
-        } => Some(("register", [handle(cleaner), handle(object), Some(*note)])),
-        Ask::Clean { cleanable, .. } => Some(("clean", [handle(cleanable), None, None])),
-        Ask::Prepare { .. } => Some(("prepare", [None, None, None])),
-        Ask::Opened { .. } => Some(("opened", [None, None, None])),
-        Ask::CheckOut { guard, .. } => Some(("checkout", [handle(guard), None, None])),
-        Ask::CheckIn { .. } => Some(("checkin", [None, None, None])),
-        Ask::Close { guard, .. } => Some(("close", [handle(guard), None, None])),
-        Ask::Finish { .. } => Some(("finish", [None, None, None])),
-        _ => None,
-    }
-}
-
-/// Asks on names, and on the heap as a whole.
-fn whole_words(ask: &Ask) -> Words {
-    let name = match ask {
-        Ask::Join { .. } => "join",
-        Ask::Leave { .. } => "leave",
-        Ask::Bind { object, .. } => return ("bind", [handle(object), None, None]),
-        Ask::Find { .. } => "find",
-        Ask::Unbind { .. } => "unbind",
-        Ask::Names { .. } => "names",
-        Ask::Full {
-            mode: FullMode::ClearAll,
-            ..
-        } => "gc soft",
-        Ask::Full { .. } => "gc",
-        Ask::Stat { .. } => "stat",
-        Ask::Notes { .. } => "notes",
-        Ask::Faults { .. } => "faults",
-        Ask::HandOver => "handover",
-        Ask::TakeUp => "takeup",
-        Ask::Begin => "begin",
-        Ask::Collect => "collect",
-        Ask::Abandon => "abandon",
-        _ => "ask",
+/// The numbers in an ask: a handle, that of a field, another handle, and a length or a note.
+fn numbers_of(ask: &Ask) -> [Option<u32>; 4] {
+    let (first, second) = match operands_of(ask) {
+        Operands::Nothing => (None, None),
+        Operands::One(first) => (handle(first), None),
+        Operands::Two(first, second) => (handle(first), handle(second)),
     };
-    (name, [None, None, None])
-}
-
-fn words_of(ask: &Ask) -> Words {
-    if let Some(words) = object_words(ask) {
-        return words;
-    }
-    if let Some(words) = reference_words(ask) {
-        return words;
-    }
-    match cleaning_words(ask) {
-        Some(words) => words,
-        None => whole_words(ask),
-    }
+    let (field, last) = match ask {
+        Ask::Put { field, .. }
+        | Ask::Get { field, .. }
+        | Ask::SetInt { field, .. }
+        | Ask::Int { field, .. } => (Some(u32::from(field.number())), None),
+        Ask::Array { length, .. } => (None, Some(u32::from(length.number()))),
+        Ask::Register { note, .. } => (None, Some(*note)),
+        _ => (None, None),
+    };
+    [first, field, second, last]
 }
 
 /// Adds the letters of a layout.
@@ -160,14 +55,13 @@ fn push_operand(alloc: Global, said: &mut String, ask: &Ask) -> Result<(), Alloc
 
 /// An ask as the command that asks it, if one does, and the mutator that asks.
 pub(crate) fn ask_said(alloc: Global, ask: &Ask) -> Result<String, AllocError> {
-    let (name, numbers) = words_of(ask);
     let mut said = String::new(alloc);
-    said.push_str(name)?;
+    said.push_str(ask_name(ask))?;
     if let Some(name) = name_of(ask) {
         said.push_str(" ")?;
         said.push_str(str::from_utf8(name.as_slice()).unwrap_or("?"))?;
     }
-    for number in numbers {
+    for number in numbers_of(ask) {
         if let Some(number) = number {
             said.push_str(format!(in alloc; " {number}")?.as_str())?;
         }

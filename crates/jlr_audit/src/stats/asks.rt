@@ -1,5 +1,5 @@
 //! How often each seat asked what.
-use crate::stats::kind::{KINDS, kind_of};
+use crate::names::{NAMES, place_of};
 use crate::stats::kinds::count_one;
 use jlr_machine::entry::Entry;
 use std::alloc::{AllocError, Global};
@@ -16,13 +16,13 @@ pub struct AskCounts {
 impl AskCounts {
     pub(crate) fn new(alloc: Global) -> Result<AskCounts, AllocError> {
         Ok(AskCounts {
-            counts: vec![in alloc; 0u64; KINDS.len() * SEATS]?,
+            counts: vec![in alloc; 0u64; NAMES.len() * SEATS]?,
         })
     }
 
     /// One ask more.
     pub(crate) fn count(&mut self, entry: &Entry) {
-        let place = kind_of(&entry.ask)
+        let place = place_of(&entry.ask)
             .saturating_mul(SEATS)
             .saturating_add(entry.seat as usize);
         count_one(&mut self.counts, place);
@@ -40,7 +40,7 @@ impl AskCounts {
     /// How often a seat asked anything.
     pub(crate) fn of_seat(&self, seat: usize) -> u64 {
         let mut sum = 0u64;
-        for kind in 0..KINDS.len() {
+        for kind in 0..NAMES.len() {
             sum = sum.saturating_add(self.of(kind, seat));
         }
         sum

@@ -1,7 +1,7 @@
 //! Figures as a table.
+use crate::names::NAMES;
 use crate::stats::asks::SEATS;
 use crate::stats::figures::Figures;
-use crate::stats::kind::KINDS;
 use crate::stats::kinds::{KIND_NAMES, Sample};
 use std::alloc::{AllocError, Global};
 
@@ -93,7 +93,7 @@ fn push_asks(alloc: Global, text: &mut String, figures: &Figures) -> Result<(), 
         }
     }
     text.push_str("\n")?;
-    for (kind, name) in KINDS.iter().enumerate() {
+    for (kind, name) in NAMES.iter().enumerate() {
         let all = figures.asks.of_kind(kind);
         if all > 0 {
             text.push_str(format!(in alloc; "{name:<9}{all:>10}")?.as_str())?;

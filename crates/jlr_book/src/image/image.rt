@@ -9,7 +9,7 @@ ghost use Rattle.jlr_book.specs.Led.{with_cycle_closed, shut};
 ghost use Rattle.jlr_book.specs.ImageKeeping.{kept_from};
 
 use crate::image::cells::add_cells;
-use crate::image::following::{follow_all, follow_at, make_array, work_of};
+use crate::image::following::{follow_all, follow_at, make_array};
 use jlr_machine::copies::copy_machine;
 use jlr_machine::items::Items;
 use jlr_machine::machine::Machine;
@@ -30,9 +30,6 @@ const FOLLOWED: usize = 2;
 /// So many entries that were followed are let go at once.
 const LET_GO: usize = 8;
 
-/// To copy so many cells is a unit of work.
-const CELLS_COPIED: usize = 4;
-
 /// At least so many cells of the empty machine are made at once.
 const CELLS_MADE: usize = 64;
 
@@ -51,8 +48,6 @@ pub struct Image {
     place: usize,
     /// Whether an array was made.
     arrays: bool,
-    /// The work beyond the ordinary that the entries took which were followed since the last cut.
-    work: usize,
 }
 
 impl Model for Image {
@@ -80,7 +75,6 @@ impl Image {
             records: Vec::new(alloc),
             place: 0,
             arrays: false,
-            work: 0,
         }
     }
 
@@ -99,16 +93,10 @@ impl Image {
     }
 
     /// Whether a cut is to be followed, and not copied: where a copy would be long, as the trace may tell by an array
-    /// that was made, or costs more than to follow the entries, since they are fewer than the cells. It is copied where
-    /// following has become more work than that.
+    /// that was made, or costs more than to follow the entries, since they are fewer than the cells.
     pub(crate) fn is_followed(&mut self, trace: &[Record]) -> bool
         ensures { self.new ≡ self.old }
     {
-        let gives_up = self.has_given_up();
-        self.work = 0;
-        if gives_up {
-            return false;
-        }
         let cells = self.limits.cells;
         if cells > COPIED_CELLS || cells > self.limits.trace {
             return true;
@@ -177,40 +165,10 @@ impl Image {
             return self.make_cells(piece);
         }
         if self.place < self.records.len() {
-            return self.follow_if_quick();
+            return self.follow_many(FOLLOWED);
         }
         self.let_go();
         Ok(())
-    }
-
-    /// Whether following has become more work than a copy. Then the next cut copies, and nothing more is followed until
-    /// then.
-    fn has_given_up(&self) -> bool {
-        self.work >= self.limits.cells as usize / CELLS_COPIED
-    }
-
-    /// Follows a few entries, unless it has been given up.
-    fn follow_if_quick(&mut self) -> Result<(), AllocError>
-        ensures { self.new ≡ self.old }
-    {
-        for _ in 0..FOLLOWED {
-            self.note_work();
-            if self.has_given_up() {
-                return Ok(());
-            }
-            self.follow_one()?;
-        }
-        Ok(())
-    }
-
-    /// Notes how much work the next entry is.
-    fn note_work(&mut self)
-        ensures { self.new ≡ self.old }
-    {
-        let (Some(machine), Some(record)) = (&self.machine, self.records.get(self.place)) else {
-            return;
-        };
-        self.work = self.work.saturating_add(work_of(machine, record));
     }
 
     /// So many cells are made at once: all of them while a quarter of a trace is written.

@@ -18,10 +18,10 @@ ghost use Rattle.jlr_trace_entries.specs.Asks.{ask_read};
 use crate::asks::field::{field_at, length_at};
 use crate::asks::layout::layout_at;
 use crate::asks::outcome::{call_outcome_at, mode_at, outcome_at};
-use crate::asks::tag::{Tag, tag_at};
 use jlr_machine::ask::Ask;
+use jlr_machine::kind::{AskKind, ask_kinds};
 use jlr_trace_fields::cursor::{
-    take_action, take_handle, take_i64, take_mutator, take_name, take_u8, take_u32,
+    take_action, take_handle, take_i64, take_mutator, take_name, take_picked, take_u8, take_u32,
 };
 use jlr_trace_fields::fault::{Fault, ReadError};
 use jlr_trace_fields::parts::tables::take_ref_kind;
@@ -395,49 +395,49 @@ fn array_at(version: Version, bytes: &mut &[u8]) -> Result<Ask, ReadError>
 pub(crate) fn take_ask(alloc: Global, version: Version, bytes: &mut &[u8]) -> Result<Ask, ReadError>
     ensures { Reads (λ x. x) result bytes.new.now (ask_read version bytes.old.now) }
 {
-    let tag = tag_at(bytes)?;
-    match tag {
-        Tag::Join => join_at(bytes),
-        Tag::Leave => leave_at(bytes),
-        Tag::New => new_at(bytes),
-        Tag::Put => put_at(version, bytes),
-        Tag::Get => get_at(version, bytes),
-        Tag::SetInt => set_int_at(version, bytes),
-        Tag::Int => int_at(version, bytes),
-        Tag::Dup => dup_at(bytes),
-        Tag::Drop => drop_at(bytes),
-        Tag::Same => same_at(bytes),
-        Tag::MakeRef => make_ref_at(bytes),
-        Tag::Deref => deref_at(bytes),
-        Tag::Refers => refers_at(bytes),
-        Tag::Clear => clear_at(bytes),
-        Tag::Enqueue => enqueue_at(bytes),
-        Tag::Enqueued => enqueued_at(bytes),
-        Tag::MakeQueue => make_queue_at(bytes),
-        Tag::Poll => poll_at(bytes),
-        Tag::Remove => remove_at(bytes),
-        Tag::MakeCleaner => make_cleaner_at(bytes),
-        Tag::Register => register_at(bytes),
-        Tag::Clean => clean_at(bytes),
-        Tag::Prepare => prepare_at(bytes),
-        Tag::Opened => opened_at(bytes),
-        Tag::CheckOut => check_out_at(bytes),
-        Tag::CheckIn => check_in_at(alloc, bytes),
-        Tag::Close => close_at(bytes),
-        Tag::Finish => finish_at(bytes),
-        Tag::Bind => bind_at(bytes),
-        Tag::Find => find_at(bytes),
-        Tag::Unbind => unbind_at(bytes),
-        Tag::Names => names_at(bytes),
-        Tag::Full => full_at(bytes),
-        Tag::Stat => stat_at(bytes),
-        Tag::Notes => notes_at(bytes),
-        Tag::Faults => faults_at(bytes),
-        Tag::HandOver => Ok(Ask::HandOver),
-        Tag::TakeUp => Ok(Ask::TakeUp),
-        Tag::Begin => Ok(Ask::Begin),
-        Tag::Collect => Ok(Ask::Collect),
-        Tag::Abandon => Ok(Ask::Abandon),
-        Tag::Array => array_at(version, bytes),
+    let kind = take_picked(0, &ask_kinds(), bytes)?;
+    match kind {
+        AskKind::Join => join_at(bytes),
+        AskKind::Leave => leave_at(bytes),
+        AskKind::New => new_at(bytes),
+        AskKind::Put => put_at(version, bytes),
+        AskKind::Get => get_at(version, bytes),
+        AskKind::SetInt => set_int_at(version, bytes),
+        AskKind::Int => int_at(version, bytes),
+        AskKind::Dup => dup_at(bytes),
+        AskKind::Drop => drop_at(bytes),
+        AskKind::Same => same_at(bytes),
+        AskKind::MakeRef => make_ref_at(bytes),
+        AskKind::Deref => deref_at(bytes),
+        AskKind::Refers => refers_at(bytes),
+        AskKind::Clear => clear_at(bytes),
+        AskKind::Enqueue => enqueue_at(bytes),
+        AskKind::Enqueued => enqueued_at(bytes),
+        AskKind::MakeQueue => make_queue_at(bytes),
+        AskKind::Poll => poll_at(bytes),
+        AskKind::Remove => remove_at(bytes),
+        AskKind::MakeCleaner => make_cleaner_at(bytes),
+        AskKind::Register => register_at(bytes),
+        AskKind::Clean => clean_at(bytes),
+        AskKind::Prepare => prepare_at(bytes),
+        AskKind::Opened => opened_at(bytes),
+        AskKind::CheckOut => check_out_at(bytes),
+        AskKind::CheckIn => check_in_at(alloc, bytes),
+        AskKind::Close => close_at(bytes),
+        AskKind::Finish => finish_at(bytes),
+        AskKind::Bind => bind_at(bytes),
+        AskKind::Find => find_at(bytes),
+        AskKind::Unbind => unbind_at(bytes),
+        AskKind::Names => names_at(bytes),
+        AskKind::Full => full_at(bytes),
+        AskKind::Stat => stat_at(bytes),
+        AskKind::Notes => notes_at(bytes),
+        AskKind::Faults => faults_at(bytes),
+        AskKind::HandOver => Ok(Ask::HandOver),
+        AskKind::TakeUp => Ok(Ask::TakeUp),
+        AskKind::Begin => Ok(Ask::Begin),
+        AskKind::Collect => Ok(Ask::Collect),
+        AskKind::Abandon => Ok(Ask::Abandon),
+        AskKind::Array => array_at(version, bytes),
     }
 }
