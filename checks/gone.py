@@ -8,13 +8,16 @@ client that is only half-closed is still answered; who waits takes no processor;
 vanish so, each seat is free again. What a client left
 open is closed on a quiet server, and `open` finds room again. A server that is asked to end answers `! 18` to who waits and all that was
 sent, saves, removes its files and only then lets go who asked, and is gone then: with 64 clients, while it starts, while its save
-fails, asked twice, killed meanwhile, with its socket of control deleted, and N times at random moments (40). A socket's file of a
+fails, asked twice, killed meanwhile, with its socket of control deleted, held by signals, looked at where descriptors ran out, and N times at random
+moments (40). A socket's file of a
 server that was killed is replaced, one of a server that lives is left alone, and so is a file that is not the server's own at its end.
 """
 import argparse
 import os
 import random
+import resource
 import shutil
+import signal
 import socket
 import stat
 import subprocess
@@ -354,6 +357,36 @@ def a_look_is_no_stop(program, asked):
     check(server.end() == ENDED, "an end in order")
 
 
+def a_look_without_descriptors_is_no_stop(program, asked):
+    server = Server(program, 9, 2)
+    peer = server.peer()
+    check(peer.ask("new -") == "= 1", "it serves")
+    pid, kind = server.process.pid, resource.RLIMIT_NOFILE
+    before = resource.prlimit(pid, kind)
+    resource.prlimit(pid, kind, (server.counts()[0], before[1]))
+    for _ in range(20):
+        with socket.socket(socket.AF_UNIX) as look:
+            look.connect(server.control)
+    time.sleep(0.2)
+    check(peer.ask("new -") == "= 2", "it goes on")
+    resource.prlimit(pid, kind, before)
+    check(server.stop().returncode == 0 and server.end() == ENDED, "an end in order")
+
+
+def a_server_that_was_held_goes_on(program, asked):
+    """It is stopped by a signal, as by a terminal, and continued, while a client waits and another goes."""
+    server = Server(program, 9, 2)
+    waits, goes = server.peer(), server.peer()
+    waits.ask("queue")
+    waits.send("remove 1")
+    for _ in range(200):
+        server.process.send_signal(signal.SIGSTOP)
+        server.process.send_signal(signal.SIGCONT)
+    goes.close()
+    wait_until(lambda: server.peer().ask("new -") == "= 1")
+    check(server.stop().returncode == 0 and waits.line() == "! 18" and server.end() == ENDED, "an end in order")
+
+
 def stops_beside_each_other(program, asked):
     """Whoever asks is told of the end, or finds nobody there any more."""
     for _ in range(asked.stops):
@@ -449,7 +482,7 @@ def main():
     for case in (a_death_goes_to_the_next, gone_clients_brick_nothing, all_of_64_vanish, who_waits_takes_no_processor, a_half_closed_client_is_answered,
                  what_a_client_left_is_closed, a_stop_answers_what_is_owed, a_second_stop_cuts, a_stop_without_a_server, a_stop_whose_save_fails,
                  a_stop_without_a_word, a_stop_waits_until_the_server_is_gone, a_stop_of_a_server_that_is_killed, a_look_is_no_stop,
-                 a_deleted_socket_of_control,
+                 a_look_without_descriptors_is_no_stop, a_server_that_was_held_goes_on, a_deleted_socket_of_control,
                  stops_beside_each_other, stops_at_any_moment, files_of_sockets):
         try:
             case(program, asked)

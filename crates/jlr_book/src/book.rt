@@ -17,7 +17,7 @@ use crate::cut::cut_to_image;
 use crate::entry::{
     is_refused, record, record_asked_end, record_end, record_in_place, take_up_answer,
 };
-use crate::event::{decline, is_end};
+use crate::event::decline;
 use crate::image::image::Image;
 use crate::room::ChoiceRoom;
 use jlr_cleaner::Job;
@@ -243,7 +243,7 @@ impl<R: Drop> Book<R> {
         requires plain { hands_in ask ≡ false }
         ensures { BookSteps seat self.old (Event.Ask ask) result self.new }
     {
-        if is_end(&ask) {
+        if ask.is_end() {
             return self.end_asked(seat, ask);
         }
         self.enter_with_room(seat, ask)

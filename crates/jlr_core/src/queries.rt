@@ -15,7 +15,7 @@ use jlr_types::{Handle, Mutator, Refusal};
 pub(crate) fn lacks_room<R>(state: &State<R>, ask: &Ask) -> bool
     ensures { result ≡ not (has_room (machine_of state.now) (cells_for (Some ask.now))) }
 {
-    state.heap.vacant_count() < cells_for(ask)
+    state.heap.vacant_count() < ask.cells()
 }
 
 /// Whether a `Remove` would be refused because its queue is empty, and nothing that comes before it in the order of
@@ -27,21 +27,5 @@ pub(crate) fn would_wait<R>(state: &State<R>, by: Mutator, queue: Handle) -> boo
     match references::check_remove(state, by, queue) {
         Ok(_) => false,
         Err(refusal) => refusal == Refusal::WouldWait,
-    }
-}
-
-/// How many cells the objects of an ask take.
-fn cells_for(ask: &Ask) -> u32
-    ensures { result ≡ cells_for (Some ask.now) }
-{
-    match ask {
-        Ask::New { .. }
-        | Ask::Array { .. }
-        | Ask::MakeRef { .. }
-        | Ask::MakeQueue { .. }
-        | Ask::MakeCleaner { .. }
-        | Ask::Register { .. } => 1,
-        Ask::Prepare { .. } => 2,
-        _ => 0,
     }
 }

@@ -11,10 +11,10 @@ use Rattle.jlr_types.specs.declared.Work.TheVariants.{Note, Resource as WorkOn}
 use Rattle.jlr_machine.specs.declared.object.Cleanable.{Cleanable as CleanableOf}
 use Rattle.jlr_machine.specs.declared.machine.Machine.{Machine}
 use Rattle.jlr_machine.specs.declared.ask.Ask.{Ask}
-use Rattle.jlr_machine.specs.declared.ask.Ask.TheVariants.{Join, Leave, New, Put, Get, SetInt, Int, Dup, Drop, Same, MakeRef, Deref, Refers}
-use Rattle.jlr_machine.specs.declared.ask.Ask.TheVariants.{Clear, Enqueue, Enqueued, MakeQueue, Poll, Remove, MakeCleaner, Register, Clean}
-use Rattle.jlr_machine.specs.declared.ask.Ask.TheVariants.{Prepare, Opened, CheckOut, CheckIn, Close, Finish, Bind, Find, Unbind, Names}
-use Rattle.jlr_machine.specs.declared.ask.Ask.TheVariants.{Full, Stat, Notes, Faults, HandOver, TakeUp, Begin, Collect, Abandon, Array}
+use Rattle.jlr_machine.specs.declared.ask.Ask.TheVariants.{New, Get, Int, Dup, MakeRef, Deref, Refers}
+use Rattle.jlr_machine.specs.declared.ask.Ask.TheVariants.{Enqueue, Enqueued, MakeQueue, Poll, Remove, MakeCleaner, Register, Clean}
+use Rattle.jlr_machine.specs.declared.ask.Ask.TheVariants.{Prepare, Opened, CheckOut, CheckIn, Close, Finish, Find, Names}
+use Rattle.jlr_machine.specs.declared.ask.Ask.TheVariants.{Stat, Notes, Faults, HandOver, TakeUp, Collect, Array}
 use Rattle.jlr_machine.specs.declared.ask.Outcome.{Outcome}
 use Rattle.jlr_machine.specs.declared.ask.Outcome.TheVariants.{Ok as OutcomeOk, Failed}
 use Rattle.jlr_machine.specs.declared.ask.CallOutcome.{CallOutcome}
@@ -98,20 +98,13 @@ lined_up m [] a e = plainly is_job_answer _ a e refl
 lined_up m (s ∷ slots) a e = mapped is_job_answer take_up_answer _ a taken_up e
 
 answered : (m : Machine) (ask : Ask) (o : Option Collected) (a : Answer) → Answers m ask o a → answer_kind ask a ≡ true
-answered m (Join k) o a e = plainly tells_done answer.Done a e refl
-answered m (Leave k) o a e = plainly tells_done answer.Done a e refl
 answered m (New k layout) o a e = handle m k a e
-answered m (Put k h f v) o a e = plainly tells_done answer.Done a e refl
 answered m (Get k h f) o a e = handle_or_null m k (given m (Get k h f)) a e
-answered m (SetInt k h f n) o a e = plainly tells_done answer.Done a e refl
 answered m (Int k h f) o a e = number (field_named m k h f) a e
 answered m (Dup k h) o a e = handle_or_null m k (given m (Dup k h)) a e
-answered m (Drop k h) o a e = plainly tells_done answer.Done a e refl
-answered m (Same k p q) o a e = plainly (answer_kind (Same k p q)) _ a e refl
 answered m (MakeRef k kind h q) o a e = handle m k a e
 answered m (Deref k s) o a e = handle_or_null m k (given m (Deref k s)) a e
 answered m (Refers k s h) o a e = mapped (answer_kind (Refers k s h)) _ _ a (λ _. refl) e
-answered m (Clear k s) o a e = plainly tells_done answer.Done a e refl
 answered m (Enqueue k s) o a e = mapped (answer_kind (Enqueue k s)) _ _ a (λ _. refl) e
 answered m (Enqueued k s) o a e = mapped (answer_kind (Enqueued k s)) _ _ a (λ _. refl) e
 answered m (MakeQueue k) o a e = handle m k a e
@@ -126,20 +119,12 @@ answered m (CheckOut k h) o a e = mapped (answer_kind (CheckOut k h)) _ _ a (λ 
 answered m (CheckIn k outcome) o a e = plainly (kind_of_call outcome) (call_answer outcome) a e (called outcome)
 answered m (Close k h) o a e = mapped is_job_answer take_up_answer _ a taken_up e
 answered m (Finish by action outcome) o a e = ended outcome a e
-answered m (Bind k name h) o a e = plainly tells_done answer.Done a e refl
 answered m (Find k name) o a e = handle m k a e
-answered m (Unbind k name) o a e = plainly tells_done answer.Done a e refl
-answered m (Names k) o a e = plainly (answer_kind (Names k)) _ a e refl
-answered m (Full k mode) o a e = plainly tells_done answer.Done a e refl
-answered m (Stat k) o a e = plainly (answer_kind (Stat k)) _ a e refl
-answered m (Notes k) o a e = plainly (answer_kind (Notes k)) _ a e refl
-answered m (Faults k) o a e = plainly (answer_kind (Faults k)) _ a e refl
 answered m HandOver o a e = handed_over m m.pending a e
 answered m TakeUp o a e = lined_up m (from_lined m m.line) a e
-answered m Begin o a e = plainly (answer_kind Begin) _ a e refl
 answered m Collect o a e = subst (λ x. answer_kind Collect x ≡ true) (sym e) refl
-answered m Abandon o a e = plainly (answer_kind Abandon) _ a e refl
 answered m (Array k n) o a e = handle m k a e
+answered m asked o a e = plainly (answer_kind asked) _ a e refl
 
 -- ---- Legal entries
 

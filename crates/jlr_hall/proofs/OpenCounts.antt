@@ -14,9 +14,11 @@ use Rattle.jlr_event.specs.Events.{answer_in, resource_of_reply}
 use Rattle.jlr_log.specs.Views.{own}
 use Rattle.jlr_core.specs.Runs.{AreAnswered}
 use Rattle.jlr_book.specs.Histories.{History, IsHistory, last}
+use Rattle.jlr_book.specs.Led.{shut}
 use Rattle.jlr_hall.specs.declared.dues.Dues.{Dues}
 use Rattle.jlr_hall.specs.declared.step.Step.{Step}
-use Rattle.jlr_hall.specs.OneHistory.{Trace, add, step_entry, events_of, is_refused_reply, replies_of, seat_of, step, trace, trace_of}
+use Rattle.jlr_hall.specs.OneHistory.{Trace, add, behind, step_entry, events_of, is_refused_reply, new_trace, replies_of, seat_of, step}
+use Rattle.jlr_hall.specs.OneHistory.{trace, trace_of}
 use Rattle.jlr_hall.specs.Due.{count_after}
 use Rattle.jlr_hall.specs.Locking.{IsLocked, count_at}
 
@@ -50,7 +52,8 @@ module _ {R : Type 0} where
 
   added_size : (t : Trace) (e : Step R) (c : Chosen) → size (add t e c) ≡ size t + length (step_entry e c)
   added_size t e c =
-      elim e.cuts as (λ b. size (cond b (trace (t.base + length t.entries) (step_entry e c)) (trace t.base (t.entries ++ step_entry e c)))
+      elim e.cuts as (λ b. size (cond b (trace (t.base + length t.entries) (shut (behind t.image t.entries)) (step_entry e c))
+      (trace t.base t.image (t.entries ++ step_entry e c)))
       ≡ size t + length (step_entry e c)) [
         | true ↦ refl
         | false ↦ omega (arith, length-append t.entries (step_entry e c))
@@ -79,6 +82,6 @@ module _ {R : Type 0} where
       → IsLocked limits h d log → count_at seat d + 1 < 2 ^ 64
   count_fits limits h d log seat sits is l =
       let run = (l.whole).run in
-      let below = counted_fits seat 0 (trace 0 []) log run.choices run.answered in
-      let there : size (trace_of (trace 0 []) log run.choices) ≡ last h = ap size (l.whole).traced in
+      let below = counted_fits seat 0 (new_trace limits) log run.choices run.answered in
+      let there : size (trace_of (new_trace limits) log run.choices) ≡ last h = ap size (l.whole).traced in
       omega (arith, below, there, (l.shows).counts seat sits, is.fits)

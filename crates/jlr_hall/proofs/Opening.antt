@@ -23,7 +23,7 @@ module _ {R : Type 0} where
       record {
         formed = formed;
         run = start_run h.core limits [] formed new.core refl;
-        traced = λ i. trace (sym new.base i) (sym new.entries i);
+        traced = λ i. trace (sym new.base i) (sym new.image i) (sym new.entries i);
         limits_are = new.limits_are;
         seats = tt;
       }

@@ -14,7 +14,9 @@ use Rattle.jlr_machine.specs.declared.ask.Answer.{Answer}
 use Rattle.jlr_machine.specs.declared.ask.Answer.TheVariants.{Refused, Truth}
 use Rattle.jlr_machine.specs.Chosen.{Chosen}
 use Rattle.jlr_machine.specs.declared.entry.Entry.{Entry}
+use Rattle.jlr_machine.specs.declared.machine.Machine.{Machine}
 use Rattle.jlr_machine.specs.Refusals.{is_end}
+use Rattle.jlr_machine.specs.Run.{Run, apply}
 use Rattle.jlr_machine.specs.WellFormed.{IsWellFormed}
 use Rattle.jlr_event.specs.declared.event.Event.{Event}
 use Rattle.jlr_machine.specs.declared.ask.Ask.TheVariants.{Abandon}
@@ -25,9 +27,11 @@ use Rattle.jlr_event.specs.Events.{ask_of, answer_in, resource_of_event}
 use Rattle.jlr_core.specs.Runs.{AreAnswered, IsRunOf}
 use Rattle.jlr_hall.proofs.Runs.{run_more_by}
 use Rattle.jlr_book.specs.Cores.{Kept, EntersLegally as EntersMachine, IsStep}
-use Rattle.jlr_book.specs.Histories.{History, IsHistory, empty_of, last, seated}
+use Rattle.jlr_book.specs.Histories.{History, IsHistory, LeadsToCore, empty_of, last, seated}
+use Rattle.jlr_book.specs.Led.{shut}
 use Rattle.jlr_book.specs.Rules.{AsksBy, BookSteps, Cuts, GivesUp, EndsBy, Enters, Readies, StepsBy, was_refused}
 use Rattle.jlr_book.specs.Writing.{Stands}
+use Rattle.jlr_book.proofs.Entering.{abandons, closed, ends_more, stands_there}
 use Rattle.jlr_book.proofs.Replies.{ready_stands}
 use Rattle.jlr_log.specs.Rule.{Knows}
 use Rattle.jlr_log.specs.Views.{own}
@@ -35,7 +39,7 @@ use Rattle.jlr_log.specs.Seeing.{Seen, AllOf}
 use Rattle.jlr_hall.specs.declared.step.Step.{Step}
 use Rattle.jlr_hall.specs.OneHistory.{AllSit, IsWhole, Trace, add, step_entry, events_of, is_ending, is_refused_reply, replies_of, seat_of}
 use Rattle.jlr_hall.specs.OneHistory.{step}
-use Rattle.jlr_hall.specs.OneHistory.{trace, trace_of}
+use Rattle.jlr_hall.specs.OneHistory.{behind, new_trace, trace, trace_in, trace_of}
 use Rattle.jlr_hall.specs.Asking.{AskedIn, gave_up, is_cut, is_trace_full, may_cut, with_cut}
 use Rattle.jlr_hall.specs.Locking.{IsLocked, Shows, dues_after, effect_of, owing_where}
 use Rattle.jlr_hall.specs.Telling.{added}
@@ -86,6 +90,19 @@ module _ {R : Type 0} (h new : History R) (is : IsHistory h) (seat : ℕ) (e : E
 no_rise : (a b : ℕ) → b ≡ a → nat_lt a b ≡ false
 no_rise a b is = grind (arith, nat_tests)
 
+-- ---- What entries leave
+
+run_is : (m n : Machine) (entries : List Entry) → Run m entries n → n ≡ behind m entries
+run_is m n [] r = r
+run_is m n (e ∷ entries) r = run_is (apply m e) n entries r.1
+
+-- the machine behind the entries of a book is its core's, with no cycle open
+left_behind : {R : Type 0} (image : Machine) (entries : List Entry) (core : Kept R) → LeadsToCore image entries core
+    → shut (behind image entries) ≡ closed core.machine
+left_behind image entries core ends =
+    ap {A = Machine} {B = Machine} shut (sym (run_is image ends.0 entries ends.1))
+    ∙ sym (ap {A = Machine} {B = Machine} closed ends.2.same)
+
 -- ---- One step more of a run, and its trace
 
 module _ {R : Type 0} where
@@ -103,7 +120,7 @@ module _ {R : Type 0} where
 
 -- the steps lead to this core and this trace
 abbrev Leads : {R : Type 0} → Limits → List (Step R) → Kept R → Trace → Type 0
-Leads limits log core t = (run : IsRunOf limits (events_of log) (replies_of log) core) × (trace_of (trace 0 []) log run.choices ≡ t)
+Leads limits log core t = (run : IsRunOf limits (events_of log) (replies_of log) core) × (trace_of (new_trace limits) log run.choices ≡ t)
 
 not_refused : {R : Type 0} (reply : Reply R) → (was_refused reply → ⊥) → is_refused_reply (answer_in reply) ≡ false
 not_refused reply not_so = none (answer_in reply) not_so
@@ -144,7 +161,7 @@ and_false false = refl
 -- what is told leads from a book on to the new one, and is the event, or the book refused it
 pub record Tells {R : Type 0} (limits : Limits) (log : List (Step R)) (seat : ℕ) (h : History R) (e : Event R) (reply : Reply R)
     (now : List (Step R)) (new : History R) : Type 0 where
-  pub leads : Leads limits (log ++ now) new.core (trace new.base new.entries)
+  pub leads : Leads limits (log ++ now) new.core (trace_in new)
   pub limits_are : new.limits ≡ limits
   pub seats : AllSit (limits.sessions + 3) (log ++ now)
   pub fate : ((now ≡ with_cut seat h e reply (is_cut h e)) × (given_up h new ≡ (is_cut h e && h.core.machine.cycle_open)))
@@ -159,27 +176,29 @@ module _ {R : Type 0} (limits : Limits) (formed : IsWellFormed (empty_of limits)
   one earlier core core' t e r cuts chosen x now =
       let s = step seat e r cuts in
       let more = run_more_by limits (events_of earlier) (replies_of earlier) core core' e r chosen formed x.0 now in
-      let traced = ap (trace_of (trace 0 []) (earlier ++ s ∷ [])) more.1
-      ∙ trace_more (trace 0 []) earlier (x.0).choices s chosen (x.0).answered ∙ ap (λ y. add y s chosen) x.1 in
+      let traced = ap (trace_of (new_trace limits) (earlier ++ s ∷ [])) more.1
+      ∙ trace_more (new_trace limits) earlier (x.0).choices s chosen (x.0).answered ∙ ap (λ y. add y s chosen) x.1 in
       subst (λ (p : List (Event R) × List (Reply R)). (run : IsRunOf limits p.0 p.1 core')
-      × (trace_of (trace 0 []) (earlier ++ s ∷ []) run.choices ≡ add t s chosen))
+      × (trace_of (new_trace limits) (earlier ++ s ∷ []) run.choices ≡ add t s chosen))
       (λ i. (sym (map-append (λ (y : Step R). y.event) earlier (s ∷ [])) i, sym (map-append (λ (y : Step R). y.reply) earlier (s ∷ [])) i))
       (more.0, traced)
 
   -- a step of the core, with no cut
-  plainly : (h new : History R) (e : Event R) (reply : Reply R) (chosen : Chosen) → Leads limits log h.core (trace h.base h.entries)
+  plainly : (h new : History R) (e : Event R) (reply : Reply R) (chosen : Chosen) → Leads limits log h.core (trace_in h)
       → IsStep h.core e reply chosen new.core
-      → new.base ≡ h.base → new.entries ≡ h.entries ++ step_entry (step seat e reply false) chosen → new.limits ≡ limits
+      → new.base ≡ h.base → new.image ≡ h.image → new.entries ≡ h.entries ++ step_entry (step seat e reply false) chosen
+      → new.limits ≡ limits
       → added seat h e reply new ≡ step seat e reply false ∷ [] → is_cut h e ≡ false
       → added seat h e reply new ≡ with_cut seat h e reply (is_cut h e)
       → Tells limits log seat h e reply (added seat h e reply new) new
-  plainly h new e reply chosen run now base entries limits_are is no_cut told =
+  plainly h new e reply chosen run now base image entries limits_are is no_cut told =
       let s = step seat e reply false in
-      let t : trace h.base (h.entries ++ step_entry s chosen) ≡ trace new.base new.entries = λ i. trace (sym base i) (sym entries i) in
+      let t : trace h.base h.image (h.entries ++ step_entry s chosen) ≡ trace_in new =
+      λ i. trace (sym base i) (sym image i) (sym entries i) in
       let leads = subst (Leads limits (log ++ s ∷ []) new.core) t
-      (one log h.core new.core (trace h.base h.entries) e reply false chosen run now) in
+      (one log h.core new.core (trace_in h) e reply false chosen run now) in
       record {
-        leads = subst (λ l. Leads limits (log ++ l) new.core (trace new.base new.entries)) (sym is) leads;
+        leads = subst (λ l. Leads limits (log ++ l) new.core (trace_in new)) (sym is) leads;
         limits_are = limits_are;
         seats = subst (λ l. AllSit (limits.sessions + 3) (log ++ l)) (sym is) (sit_more _ log s all sits);
         fate = inl (
@@ -190,51 +209,61 @@ module _ {R : Type 0} (limits : Limits) (formed : IsWellFormed (empty_of limits)
       }
 
   -- a step of the core, after a cut that gave up no cycle
-  after_shut : (h new : History R) (e : Event R) (reply : Reply R) (chosen : Chosen) → Leads limits log h.core (trace h.base h.entries)
-      → IsStep h.core e reply chosen new.core
-      → new.base ≡ last h → new.entries ≡ step_entry (step seat e reply true) chosen → new.limits ≡ limits
+  after_shut : (h new : History R) (e : Event R) (reply : Reply R) (chosen : Chosen) → Leads limits log h.core (trace_in h)
+      → IsStep h.core e reply chosen new.core → LeadsToCore h.image h.entries h.core
+      → new.base ≡ last h → new.image ≡ closed h.core.machine → new.entries ≡ step_entry (step seat e reply true) chosen
+      → new.limits ≡ limits
       → h.core.machine.cycle_open ≡ false → added seat h e reply new ≡ step seat e reply true ∷ []
       → added seat h e reply new ≡ with_cut seat h e reply (is_cut h e)
       → Tells limits log seat h e reply (added seat h e reply new) new
-  after_shut h new e reply chosen run now base entries limits_are shut is told =
+  after_shut h new e reply chosen run now ends base image entries limits_are not_open is told =
       let s = step seat e reply true in
-      let t : trace (last h) (step_entry s chosen) ≡ trace new.base new.entries = λ i. trace (sym base i) (sym entries i) in
+      let left = left_behind h.image h.entries h.core ends ∙ sym image in
+      let t : trace (last h) (shut (behind h.image h.entries)) (step_entry s chosen) ≡ trace_in new =
+      λ i. trace (sym base i) (left i) (sym entries i) in
       let leads = subst (Leads limits (log ++ s ∷ []) new.core) t
-      (one log h.core new.core (trace h.base h.entries) e reply true chosen run now) in
+      (one log h.core new.core (trace_in h) e reply true chosen run now) in
       record {
-        leads = subst (λ l. Leads limits (log ++ l) new.core (trace new.base new.entries)) (sym is) leads;
+        leads = subst (λ l. Leads limits (log ++ l) new.core (trace_in new)) (sym is) leads;
         limits_are = limits_are;
         seats = subst (λ l. AllSit (limits.sessions + 3) (log ++ l)) (sym is) (sit_more _ log s all sits);
         fate = inl (
           told,
-          ap (λ b. b && not (new.base == h.base)) shut ∙ sym (and_false (is_cut h e))
-              ∙ ap (λ b. is_cut h e && b) (sym shut),
+          ap (λ b. b && not (new.base == h.base)) not_open ∙ sym (and_false (is_cut h e))
+              ∙ ap (λ b. is_cut h e && b) (sym not_open),
         );
       }
 
   -- and after one that gave one up
   after_open : (h new : History R) (mid : Kept R) (e : Event R) (reply : Reply R) (chosen chosen' : Chosen)
-      → Leads limits log h.core (trace h.base h.entries)
+      → Leads limits log h.core (trace_in h)
       → IsStep h.core (Asks Abandon) (Answered (Truth true) None) chosen' mid → IsStep mid e reply chosen new.core
-      → new.base ≡ last h + 1 → new.entries ≡ step_entry (step seat e reply true) chosen → new.limits ≡ limits
+      → LeadsToCore h.image h.entries h.core → new.base ≡ last h + 1 → new.image ≡ closed h.core.machine
+      → new.entries ≡ step_entry (step seat e reply true) chosen → new.limits ≡ limits
       → is_cut h e ≡ true → h.core.machine.cycle_open ≡ true → added seat h e reply new ≡ gave_up seat true ++ step seat e reply true ∷ []
       → added seat h e reply new ≡ with_cut seat h e reply (is_cut h e)
       → Tells limits log seat h e reply (added seat h e reply new) new
-  after_open h new mid e reply chosen chosen' run gives now base entries limits_are cuts opened is told =
+  after_open h new mid e reply chosen chosen' run gives now ends base image entries limits_are cuts opened is told =
       let up : Step R = step seat (Asks Abandon) (Answered (Truth true) None) false in
       let s = step seat e reply true in
       let given = h.entries ++ step_entry up chosen' in
-      let first = one log h.core mid (trace h.base h.entries) (Asks Abandon) (Answered (Truth true) None) false chosen' run gives in
-      let second = one (log ++ up ∷ []) mid new.core (trace h.base given) e reply true chosen first now in
+      let first = one log h.core mid (trace_in h) (Asks Abandon) (Answered (Truth true) None) false chosen' run gives in
+      let second = one (log ++ up ∷ []) mid new.core (trace h.base h.image given) e reply true chosen first now in
       let long : length given ≡ length h.entries + 1 = length-append h.entries (step_entry up chosen') in
       let higher : h.base + length given ≡ new.base = omega (arith, base, long) in
       let further : h.base < new.base = omega (arith, base) in
-      let t : trace (h.base + length given) (step_entry s chosen) ≡ trace new.base new.entries = λ i. trace (higher i) (sym entries i) in
+      let up_ends : LeadsToCore h.image given mid =
+      ends_more h.image h.entries h.core mid seat (Asks Abandon) (Answered (Truth true) None) chosen' gives ends in
+      let gave = (abandons h.core mid (Answered (Truth true) None) chosen' gives (stands_there h.image h.entries h.core ends) opened).1 in
+      let left : shut (behind h.image given) ≡ new.image =
+      left_behind h.image given mid up_ends ∙ ap {A = Machine} {B = Machine} closed gave ∙ sym image in
+      let t : trace (h.base + length given) (shut (behind h.image given)) (step_entry s chosen) ≡ trace_in new =
+      λ i. trace (higher i) (left i) (sym entries i) in
       let leads = subst (Leads limits ((log ++ up ∷ []) ++ s ∷ []) new.core) t second in
       let joined = append_assoc log (up ∷ []) (s ∷ []) in
       record {
-        leads = subst (λ l. Leads limits (log ++ l) new.core (trace new.base new.entries)) (sym is)
-            (subst (λ l. Leads limits l new.core (trace new.base new.entries)) joined leads);
+        leads = subst (λ l. Leads limits (log ++ l) new.core (trace_in new)) (sym is)
+            (subst (λ l. Leads limits l new.core (trace_in new)) joined leads);
         limits_are = limits_are;
         seats = subst (λ l. AllSit (limits.sessions + 3) (log ++ l)) (sym is)
             (subst (AllSit (limits.sessions + 3)) joined (sit_more _ (log ++ up ∷ []) s (sit_more _ log up all sits) sits));
@@ -269,18 +298,19 @@ module _ {R : Type 0} (limits : Limits) (formed : IsWellFormed (empty_of limits)
       ap (λ b. cond b (cond (nat_lt (last h) (last new)) (with_cut seat h e reply (is_trace_full h)) []) (step seat e reply false ∷ [])) is
       ∙ ap (λ b. cond b (with_cut seat h e reply (is_trace_full h)) []) (lt-ltb (last h) (last new) more)
 
-  enters : (h new : History R) (e : Event R) (reply : Reply R) → Leads limits log h.core (trace h.base h.entries) → h.limits ≡ limits
+  enters : (h new : History R) (e : Event R) (reply : Reply R) → Leads limits log h.core (trace_in h) → h.limits ≡ limits
       → may_cut (ask_of e) ≡ false
       → (is_ending (ask_of e) && is_refused_reply (answer_in reply)) ≡ false → Enters seat h e reply new
       → Tells limits log seat h e reply (added seat h e reply new) new
   enters h new e reply run limits_are may written x =
       plainly h new e reply x.chosen run x.step (ap {A = History R} {B = ℕ} (λ y. y.base) x.adds)
+      (ap {A = History R} {B = Machine} (λ y. y.image) x.adds)
       (ap {A = History R} {B = List Entry} (λ y. y.entries) x.adds
       ∙ ap (λ l. h.entries ++ l) (sym (as_seated seat e reply false x.chosen written)))
       (ap {A = History R} {B = Limits} (λ y. y.limits) x.adds ∙ limits_are) (added_plain h new e reply may)
       (ap (λ b. b && is_trace_full h) may) (told_plain h new e reply may)
 
-  by_end : (h new : History R) (e : Event R) (reply : Reply R) → Leads limits log h.core (trace h.base h.entries) → h.limits ≡ limits
+  by_end : (h new : History R) (e : Event R) (reply : Reply R) → Leads limits log h.core (trace_in h) → h.limits ≡ limits
       → may_cut (ask_of e) ≡ false → is_ending (ask_of e) ≡ true
       → EndsBy seat h e reply new → Tells limits log seat h e reply (added seat h e reply new) new
   by_end h new e reply run limits_are may end (inl x) =
@@ -290,22 +320,23 @@ module _ {R : Type 0} (limits : Limits) (formed : IsWellFormed (empty_of limits)
       end
       ∙ ap is_refused_reply x.refused in
       plainly h new e reply x.steps.0 run x.steps.1 (ap {A = History R} {B = ℕ} (λ y. y.base) x.stays)
+      (ap {A = History R} {B = Machine} (λ y. y.image) x.stays)
       (ap {A = History R} {B = List Entry} (λ y. y.entries) x.stays ∙ sym (append-nil h.entries)
       ∙ ap (λ l. h.entries ++ l) (sym (as_none seat e reply false x.steps.0 refused)))
       (ap {A = History R} {B = Limits} (λ y. y.limits) x.stays ∙ limits_are) (added_plain h new e reply may)
       (ap (λ b. b && is_trace_full h) may) (told_plain h new e reply may)
 
   by_ask : (h new : History R) (e : Event R) (reply : Reply R) (ask : Ask) → ask_of e ≡ Some ask → is_end ask ≡ false → IsHistory h
-      → Leads limits log h.core (trace h.base h.entries) → h.limits ≡ limits
+      → Leads limits log h.core (trace_in h) → h.limits ≡ limits
       → may_cut (ask_of e) ≡ true → AsksBy seat h e reply new → Tells limits log seat h e reply (added seat h e reply new) new
   by_ask h new e reply ask asks end is run limits_are may (inr x) =
       let none = added_none h new e reply may (ap {A = History R} {B = ℕ} last x.same) in
-      let here : Leads limits (log ++ []) new.core (trace new.base new.entries) =
-      subst (λ l. Leads limits l new.core (trace new.base new.entries)) (sym (append-nil log))
-      (subst (λ (k : History R). Leads limits log k.core (trace k.base k.entries)) (sym x.same) run) in
+      let here : Leads limits (log ++ []) new.core (trace_in new) =
+      subst (λ l. Leads limits l new.core (trace_in new)) (sym (append-nil log))
+      (subst (λ (k : History R). Leads limits log k.core (trace_in k)) (sym x.same) run) in
       let stays = stays_open h.core.machine.cycle_open h.base new.base (ap {A = History R} {B = ℕ} (λ y. y.base) x.same) in
       record {
-        leads = subst (λ l. Leads limits (log ++ l) new.core (trace new.base new.entries)) (sym none) here;
+        leads = subst (λ l. Leads limits (log ++ l) new.core (trace_in new)) (sym none) here;
         limits_are = ap {A = History R} {B = Limits} (λ y. y.limits) x.same ∙ limits_are;
         seats = subst (λ l. AllSit (limits.sessions + 3) (log ++ l)) (sym none)
             (subst (AllSit (limits.sessions + 3)) (sym (append-nil log)) all);
@@ -322,6 +353,7 @@ module _ {R : Type 0} (limits : Limits) (formed : IsWellFormed (empty_of limits)
       let as_cut : added seat h e reply new ≡ with_cut seat h e reply (is_cut h e) = told
       ∙ ap (λ b. with_cut seat h e reply (b && is_trace_full h)) (sym may) in
       let base : new.base ≡ (x.ready).base = ap {A = History R} {B = ℕ} (λ y. y.base) x.enters.adds in
+      let image : new.image ≡ (x.ready).image = ap {A = History R} {B = Machine} (λ y. y.image) x.enters.adds in
       let entries = ap {A = History R} {B = List Entry} (λ y. y.entries) x.enters.adds in
       let same_limits = ap {A = History R} {B = Limits} (λ y. y.limits) x.enters.adds in
       let ends_nothing : is_ending (ask_of e) ≡ false = ap is_ending asks ∙ end in
@@ -335,6 +367,7 @@ module _ {R : Type 0} (limits : Limits) (formed : IsWellFormed (empty_of limits)
             ap (λ b. with_cut seat h e reply (not b)) short in
             plainly h new e reply x.enters.chosen run (subst (λ (k : History R). IsStep k.core e reply x.enters.chosen new.core) same
             x.enters.step) (base ∙ ap {A = History R} {B = ℕ} (λ y. y.base) same)
+            (image ∙ ap {A = History R} {B = Machine} (λ y. y.image) same)
             (entries ∙ ap {A = History R} {B = List Entry}
             (λ y. y.entries ++ option_to_list (seated seat (ask_of e) (answer_in reply) x.enters.chosen)) same
             ∙ ap (λ l. h.entries ++ l) (sym (as_seated seat e reply false x.enters.chosen written)))
@@ -347,27 +380,30 @@ module _ {R : Type 0} (limits : Limits) (formed : IsWellFormed (empty_of limits)
             entries ∙ ap {A = List Entry} {B = List Entry}
             (λ l. l ++ option_to_list (seated seat (ask_of e) (answer_in reply) x.enters.chosen)) cut.entries
             ∙ sym (as_seated seat e reply true x.enters.chosen written) in
-            cut_case h new e reply x.ready x.enters.chosen run cut x.enters.step base fresh (same_limits ∙ cut.limits ∙ limits_are)
-            (told ∙ full_is) (ap (λ b. b && is_trace_full h) may ∙ ap not full) as_cut (h.core.machine.cycle_open) refl
+            cut_case h new e reply x.ready x.enters.chosen run cut x.enters.step is.ends base (image ∙ cut.image) fresh
+            (same_limits ∙ cut.limits ∙ limits_are) (told ∙ full_is) (ap (λ b. b && is_trace_full h) may ∙ ap not full)
+            as_cut (h.core.machine.cycle_open) refl
       ] refl x.readies
     where
       cut_case : (h new : History R) (e : Event R) (reply : Reply R) (ready : History R) (chosen : Chosen)
-          → Leads limits log h.core (trace h.base h.entries) → Cuts h ready → IsStep ready.core e reply chosen new.core
-          → new.base ≡ ready.base → new.entries ≡ step_entry (step seat e reply true) chosen → new.limits ≡ limits
+          → Leads limits log h.core (trace_in h) → Cuts h ready → IsStep ready.core e reply chosen new.core
+          → LeadsToCore h.image h.entries h.core → new.base ≡ ready.base → new.image ≡ closed h.core.machine
+          → new.entries ≡ step_entry (step seat e reply true) chosen → new.limits ≡ limits
           → added seat h e reply new ≡ with_cut seat h e reply true → is_cut h e ≡ true
           → added seat h e reply new ≡ with_cut seat h e reply (is_cut h e) → (b : Bool) → h.core.machine.cycle_open ≡ b
           → Tells limits log seat h e reply (added seat h e reply new) new
-      cut_case h new e reply ready chosen run cut now base fresh limits_are told cuts as_cut true opened =
+      cut_case h new e reply ready chosen run cut now ends base image fresh limits_are told cuts as_cut true opened =
           let gives = subst (λ b. GivesUp b h.core ready.core) opened cut.gives_up in
-          after_open h new ready.core e reply chosen gives.0 run gives.1 now (base ∙ cut.base ∙ ap (λ b. last h + cond b 1 0) opened) fresh
-          limits_are cuts opened (told ∙ ap (λ b. gave_up seat b ++ step seat e reply true ∷ []) opened) as_cut
-      cut_case h new e reply ready chosen run cut now base fresh limits_are told cuts as_cut false shut =
-          let same = subst (λ b. GivesUp b h.core ready.core) shut cut.gives_up in
-          let higher : new.base ≡ last h = let there = base ∙ cut.base ∙ ap (λ b. last h + cond b 1 0) shut in omega (arith, there) in
-          after_shut h new e reply chosen run (subst (λ (k : Kept R). IsStep k e reply chosen new.core) same now) higher fresh limits_are
-          shut (told ∙ ap (λ b. gave_up seat b ++ step seat e reply true ∷ []) shut) as_cut
+          after_open h new ready.core e reply chosen gives.0 run gives.1 now ends
+          (base ∙ cut.base ∙ ap (λ b. last h + cond b 1 0) opened) image fresh limits_are cuts opened
+          (told ∙ ap (λ b. gave_up seat b ++ step seat e reply true ∷ []) opened) as_cut
+      cut_case h new e reply ready chosen run cut now ends base image fresh limits_are told cuts as_cut false not_open =
+          let same = subst (λ b. GivesUp b h.core ready.core) not_open cut.gives_up in
+          let higher : new.base ≡ last h = let there = base ∙ cut.base ∙ ap (λ b. last h + cond b 1 0) not_open in omega (arith, there) in
+          after_shut h new e reply chosen run (subst (λ (k : Kept R). IsStep k e reply chosen new.core) same now) ends higher image
+          fresh limits_are not_open (told ∙ ap (λ b. gave_up seat b ++ step seat e reply true ∷ []) not_open) as_cut
 
-  tells_by : (h new : History R) (e : Event R) (reply : Reply R) → IsHistory h → Leads limits log h.core (trace h.base h.entries)
+  tells_by : (h new : History R) (e : Event R) (reply : Reply R) → IsHistory h → Leads limits log h.core (trace_in h)
       → h.limits ≡ limits → BookSteps seat h e reply new → Tells limits log seat h e reply (added seat h e reply new) new
   tells_by h new e reply is run limits_are steps =
       elim (ask_of e) as (λ o. ask_of e ≡ o → StepsBy seat o h e reply new

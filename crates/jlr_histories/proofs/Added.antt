@@ -28,10 +28,10 @@ use Rattle.jlr_machine.specs.declared.ask.Outcome.TheVariants.{Ok as OutcomeOk, 
 use Rattle.jlr_machine.specs.declared.ask.Handed.{Handed}
 use Rattle.jlr_machine.specs.declared.ask.Handed.TheVariants.{Queued as HandedQueued, Lined as HandedLined, Skipped, Nothing}
 use Rattle.jlr_machine.specs.declared.ask.Ask.{Ask}
-use Rattle.jlr_machine.specs.declared.ask.Ask.TheVariants.{Join, Leave, New, Put, Get, SetInt, Int, Dup, Drop, Same, MakeRef, Deref, Refers}
-use Rattle.jlr_machine.specs.declared.ask.Ask.TheVariants.{Clear, Enqueue, Enqueued, MakeQueue, Poll, Remove, MakeCleaner, Register, Clean}
-use Rattle.jlr_machine.specs.declared.ask.Ask.TheVariants.{Prepare, Opened, CheckOut, CheckIn, Close, Finish, Bind, Find, Unbind, Names}
-use Rattle.jlr_machine.specs.declared.ask.Ask.TheVariants.{Full, Stat, Notes, Faults, HandOver, TakeUp, Begin, Collect, Abandon, Array}
+use Rattle.jlr_machine.specs.declared.ask.Ask.TheVariants.{New, Put, Get, SetInt, Dup, MakeRef, Deref}
+use Rattle.jlr_machine.specs.declared.ask.Ask.TheVariants.{Clear, Enqueue, MakeQueue, Poll, Remove, MakeCleaner, Register, Clean}
+use Rattle.jlr_machine.specs.declared.ask.Ask.TheVariants.{Prepare, Opened, CheckOut, CheckIn, Close, Finish, Bind, Find}
+use Rattle.jlr_machine.specs.declared.ask.Ask.TheVariants.{HandOver, TakeUp, Array}
 use Rattle.jlr_machine.specs.declared.ask.Answer.{Answer}
 use Rattle.jlr_machine.specs.declared.ask.Answer.TheVariants.{Prepared}
 use Rattle.jlr_machine.specs.Objects.{Heap, at, set_at, ◌∈◌, as_reference, with_field, with_value, with_reference, with_members}
@@ -322,8 +322,6 @@ module _ (R : ℕ → Type 0) where
 
   module _ (m : Machine) (named : (k h y : ℕ) → slot_named m k h ≡ Some y → R y) (pending : (y : ℕ) → y ∈ m.pending → R y) where
     pub adds : (ask : Ask) (a : Answer) (fresh : List ℕ) → Second m ask a fresh → Adds m (after m ask a fresh)
-    adds (Join k) a fresh r = none m
-    adds (Leave k) a fresh r = none m
     adds (New k layout) a fresh r = made_adds m k fresh (Plain (Typed (map blank layout)))
         (λ y h. absurd (blank_none layout y (strong_only (filter_map slot_in (map blank layout)) y h)))
     adds (Put k h f v) a fresh r = on_adds m (slot_named m k h) (λ s. with_object m s (with_field f (RefValue (slot_named m k v))))
@@ -331,19 +329,14 @@ module _ (R : ℕ → Type 0) where
     adds (Get k h f) a fresh r = given_adds m k (given m (Get k h f))
     adds (SetInt k h f number) a fresh r = on_adds m (slot_named m k h) (λ s. with_object m s (with_field f (IntValue number)))
         (λ s e. object_adds m s (with_field f (IntValue number)) (field_few f (IntValue number) (λ y i. no_some y i)))
-    adds (Int k h f) a fresh r = none m
     adds (Dup k h) a fresh r = given_adds m k (given m (Dup k h))
-    adds (Drop k h) a fresh r = none m
-    adds (Same k x y) a fresh r = none m
     adds (MakeRef k kind h q) a fresh r = made_adds m k fresh
         (Reference (record { kind = kind; referent = slot_named m k h; queue = slot_named m k q; state = Fresh }))
         (reference_new kind (slot_named m k h) (slot_named m k q) (named k h) (named k q))
     adds (Deref k x) a fresh r = given_adds m k (given m (Deref k x))
-    adds (Refers k x h) a fresh r = none m
     adds (Clear k x) a fresh r = on_adds m (slot_named m k x) (λ s. with_object m s (with_reference unreferred))
         (λ s e. object_adds m s (with_reference unreferred) unreferred_few)
     adds (Enqueue k x) a fresh r = on_adds m (slot_named m k x) (enqueued m) (λ s e. enqueued_adds m s (named k x s e))
-    adds (Enqueued k x) a fresh r = none m
     adds (MakeQueue k) a fresh r = made_adds m k fresh (Queue []) (λ y h. nothing y h)
     adds (Poll k q) a fresh r = poll_given_adds m k q (given m (Poll k q))
     adds (Remove k q) a fresh r = poll_given_adds m k q (given m (Remove k q))
@@ -352,7 +345,6 @@ module _ (R : ℕ → Type 0) where
     adds (Clean k d) a fresh r =
         on_adds m (slot_named m k d) (λ s. cleaned m k s (cleanable_at m s)) (λ s e. cleaned_adds m k s (cleanable_at m s))
     adds (Prepare k) (Prepared rid) fresh r = prepared_adds m k fresh rid (λ g c e. r k rid g c refl refl e)
-    adds (Prepare k) a fresh r = none m
     adds (Opened k outcome) a fresh r = on_adds m (guard_fenced m k) (λ g. opened m k g outcome) (λ g e. opened_adds m k g outcome)
     adds (CheckOut k h) a fresh r = on_adds m (guard_named m k h) (checked_out m k (slot_named m k h)) (λ g e. none m)
     adds (CheckIn k outcome) a fresh r = on_adds m (guard_fenced m k) (checked_in m k) (λ g e. none m)
@@ -363,19 +355,11 @@ module _ (R : ℕ → Type 0) where
         (free_again_adds (finished m job outcome) by))
     adds (Bind k name h) a fresh r = on_adds m (slot_named m k h) (λ s. record m { names = bound m.names name s }) (λ s e. none m)
     adds (Find k name) a fresh r = given_adds m k (given m (Find k name))
-    adds (Unbind k name) a fresh r = none m
-    adds (Names k) a fresh r = none m
-    adds (Full k mode) a fresh r = none m
-    adds (Stat k) a fresh r = none m
-    adds (Notes k) a fresh r = none m
-    adds (Faults k) a fresh r = none m
     adds HandOver a fresh r = handed_over_adds m m.pending pending
     adds TakeUp a fresh r = line_taken_adds m (from_lined m m.line)
-    adds Begin a fresh r = none m
-    adds Collect a fresh r = none m
-    adds Abandon a fresh r = none m
     adds (Array k n) a fresh r = made_adds m k fresh (Plain (Elements (replicate n None)))
         (λ y h. no_null n y (strong_only (slots_in (Elements (replicate n None))) y h))
+    adds asked a fresh r = none m
 
 -- ---- An ask of m
 

@@ -19,10 +19,10 @@ use Rattle.jlr_machine.specs.declared.ask.Outcome.{Outcome}
 use Rattle.jlr_machine.specs.declared.ask.Outcome.TheVariants.{Ok as OutcomeOk, Failed}
 use Rattle.jlr_machine.specs.declared.ask.Handed.{Handed}
 use Rattle.jlr_machine.specs.declared.ask.Handed.TheVariants.{Queued as HandedQueued, Lined as HandedLined, Skipped, Nothing}
-use Rattle.jlr_machine.specs.declared.ask.Ask.TheVariants.{Join, Leave, New, Put, Get, SetInt, Int, Dup, Drop, Same, MakeRef, Deref, Refers}
-use Rattle.jlr_machine.specs.declared.ask.Ask.TheVariants.{Clear, Enqueue, Enqueued, MakeQueue, Poll, Remove, MakeCleaner, Register, Clean}
-use Rattle.jlr_machine.specs.declared.ask.Ask.TheVariants.{Prepare, Opened, CheckOut, CheckIn, Close, Finish, Bind, Find, Unbind, Names}
-use Rattle.jlr_machine.specs.declared.ask.Ask.TheVariants.{Full, Stat, Notes, Faults, HandOver, TakeUp, Begin, Collect, Abandon, Array}
+use Rattle.jlr_machine.specs.declared.ask.Ask.TheVariants.{Join, New, Put, Get, SetInt, Dup, MakeRef, Deref}
+use Rattle.jlr_machine.specs.declared.ask.Ask.TheVariants.{Clear, Enqueue, MakeQueue, Poll, Remove, MakeCleaner, Register, Clean}
+use Rattle.jlr_machine.specs.declared.ask.Ask.TheVariants.{Prepare, Opened, CheckOut, CheckIn, Close, Finish, Bind, Find}
+use Rattle.jlr_machine.specs.declared.ask.Ask.TheVariants.{HandOver, TakeUp, Begin, Abandon, Array}
 use Rattle.jlr_machine.specs.declared.ask.Answer.TheVariants.{Prepared}
 use Rattle.jlr_machine.specs.Objects.{at, some_and, as_reference, with_field, with_reference, with_cleanable, queue_ahead, is_lined}
 use Rattle.jlr_machine.specs.Objects.{is_spent}
@@ -43,47 +43,7 @@ with_cycle m b slots = record m { cycle_open = b; seen = slots }
 
 pub same_refusal : (m : Machine) (slots : List ℕ) (ask : Ask) → refusal (with_seen m slots) ask ≡ refusal m ask
 same_refusal m slots (Join k) = refl
-same_refusal m slots (Leave k) = refl
-same_refusal m slots (New k layout) = refl
-same_refusal m slots (Array k size) = refl
-same_refusal m slots (Put k h f v) = refl
-same_refusal m slots (Get k h f) = refl
-same_refusal m slots (SetInt k h f number) = refl
-same_refusal m slots (Int k h f) = refl
-same_refusal m slots (Dup k h) = refl
-same_refusal m slots (Drop k h) = refl
-same_refusal m slots (Same k a b) = refl
-same_refusal m slots (MakeRef k kind h q) = refl
-same_refusal m slots (Deref k r) = refl
-same_refusal m slots (Refers k r h) = refl
-same_refusal m slots (Clear k r) = refl
-same_refusal m slots (Enqueue k r) = refl
-same_refusal m slots (Enqueued k r) = refl
-same_refusal m slots (MakeQueue k) = refl
-same_refusal m slots (Poll k q) = refl
-same_refusal m slots (Remove k q) = refl
-same_refusal m slots (MakeCleaner k) = refl
-same_refusal m slots (Register k d h note) = refl
-same_refusal m slots (Clean k d) = refl
-same_refusal m slots (Prepare k) = refl
-same_refusal m slots (Opened k outcome) = refl
-same_refusal m slots (CheckOut k h) = refl
-same_refusal m slots (CheckIn k outcome) = refl
-same_refusal m slots (Close k h) = refl
-same_refusal m slots (Finish by action outcome) = refl
-same_refusal m slots (Bind k name h) = refl
-same_refusal m slots (Find k name) = refl
-same_refusal m slots (Unbind k name) = refl
-same_refusal m slots (Names k) = refl
-same_refusal m slots (Full k mode) = refl
-same_refusal m slots (Stat k) = refl
-same_refusal m slots (Notes k) = refl
-same_refusal m slots (Faults k) = refl
-same_refusal m slots HandOver = refl
-same_refusal m slots TakeUp = refl
-same_refusal m slots Begin = refl
-same_refusal m slots Collect = refl
-same_refusal m slots Abandon = refl
+same_refusal m slots asked = refl
 
 -- ---- Answers
 
@@ -105,49 +65,15 @@ same_given_answer m slots k None = refl
 same_given_answer m slots k (Some s) = refl
 
 pub same_reply : (m : Machine) (slots : List ℕ) (ask : Ask) → reply (with_seen m slots) ask ≡ reply m ask
-same_reply m slots (Join k) = refl
-same_reply m slots (Leave k) = refl
-same_reply m slots (New k layout) = refl
-same_reply m slots (Array k size) = refl
-same_reply m slots (Put k h f v) = refl
 same_reply m slots (Get k h f) = same_given_answer m slots k (given m (Get k h f))
-same_reply m slots (SetInt k h f number) = refl
-same_reply m slots (Int k h f) = refl
 same_reply m slots (Dup k h) = same_given_answer m slots k (given m (Dup k h))
-same_reply m slots (Drop k h) = refl
-same_reply m slots (Same k a b) = refl
-same_reply m slots (MakeRef k kind h q) = refl
 same_reply m slots (Deref k r) = same_given_answer m slots k (given m (Deref k r))
-same_reply m slots (Refers k r h) = refl
-same_reply m slots (Clear k r) = refl
-same_reply m slots (Enqueue k r) = refl
-same_reply m slots (Enqueued k r) = refl
-same_reply m slots (MakeQueue k) = refl
 same_reply m slots (Poll k q) = same_given_answer m slots k (given m (Poll k q))
 same_reply m slots (Remove k q) = same_given_answer m slots k (given m (Remove k q))
-same_reply m slots (MakeCleaner k) = refl
-same_reply m slots (Register k d h note) = refl
-same_reply m slots (Clean k d) = refl
-same_reply m slots (Prepare k) = refl
-same_reply m slots (Opened k outcome) = refl
-same_reply m slots (CheckOut k h) = refl
-same_reply m slots (CheckIn k outcome) = refl
-same_reply m slots (Close k h) = refl
-same_reply m slots (Finish by action outcome) = refl
-same_reply m slots (Bind k name h) = refl
-same_reply m slots (Find k name) = refl
-same_reply m slots (Unbind k name) = refl
-same_reply m slots (Names k) = refl
-same_reply m slots (Full k mode) = refl
-same_reply m slots (Stat k) = refl
-same_reply m slots (Notes k) = refl
-same_reply m slots (Faults k) = refl
 same_reply m slots HandOver = same_hand_over_answer m slots m.pending
 same_reply m slots TakeUp = same_line_answer m slots (from_lined (with_seen m slots) m.line)
     ∙ ap (line_answer m) (same_line m m.cycle_open slots m.line)
-same_reply m slots Begin = refl
-same_reply m slots Collect = refl
-same_reply m slots Abandon = refl
+same_reply m slots asked = refl
 
 -- ---- What is left, part by part
 
@@ -271,8 +197,6 @@ LeavesCycle m b slots ask a fresh = (after (with_cycle m b slots) ask a fresh �
     ⊎ (ask ≡ Abandon)
 
 pub leaves_cycle : (m : Machine) (b : Bool) (slots : List ℕ) (ask : Ask) (a : Answer) (fresh : List ℕ) → LeavesCycle m b slots ask a fresh
-leaves_cycle m b slots (Join k) a fresh = inl refl
-leaves_cycle m b slots (Leave k) a fresh = inl refl
 leaves_cycle m b slots (New k layout) a fresh = inl (made_moves b slots m k fresh (Plain (Typed (map blank layout))))
 leaves_cycle m b slots (Array k size) a fresh = inl (made_moves b slots m k fresh (Plain (Elements (replicate size None))))
 leaves_cycle m b slots (Put k h f v) a fresh =
@@ -280,19 +204,14 @@ leaves_cycle m b slots (Put k h f v) a fresh =
 leaves_cycle m b slots (Get k h f) a fresh = inl (given_moves b slots m k (given m (Get k h f)))
 leaves_cycle m b slots (SetInt k h f number) a fresh =
     inl (on_moves b slots m (slot_named m k h) (λ m s. with_object m s (with_field f (IntValue number))) (λ s. refl))
-leaves_cycle m b slots (Int k h f) a fresh = inl refl
 leaves_cycle m b slots (Dup k h) a fresh = inl (given_moves b slots m k (given m (Dup k h)))
-leaves_cycle m b slots (Drop k h) a fresh = inl refl
-leaves_cycle m b slots (Same k x y) a fresh = inl refl
 leaves_cycle m b slots (MakeRef k kind h q) a fresh =
     inl (made_moves b slots m k fresh
     (Reference (record { kind = kind; referent = slot_named m k h; queue = slot_named m k q; state = Fresh })))
 leaves_cycle m b slots (Deref k r) a fresh = inl (given_moves b slots m k (given m (Deref k r)))
-leaves_cycle m b slots (Refers k r h) a fresh = inl refl
 leaves_cycle m b slots (Clear k r) a fresh =
     inl (on_moves b slots m (slot_named m k r) (λ m s. with_object m s (with_reference unreferred)) (λ s. refl))
 leaves_cycle m b slots (Enqueue k r) a fresh = inl (on_moves b slots m (slot_named m k r) enqueued (λ s. enqueued_moves b slots m s))
-leaves_cycle m b slots (Enqueued k r) a fresh = inl refl
 leaves_cycle m b slots (MakeQueue k) a fresh = inl (made_moves b slots m k fresh (Queue []))
 leaves_cycle m b slots (Poll k q) a fresh = inl (poll_given_moves b slots m k q (given m (Poll k q)))
 leaves_cycle m b slots (Remove k q) a fresh = inl (poll_given_moves b slots m k q (given m (Remove k q)))
@@ -303,7 +222,6 @@ leaves_cycle m b slots (Register k d h note) a fresh =
 leaves_cycle m b slots (Clean k d) a fresh = inl (on_moves b slots m (slot_named m k d) (λ m s. cleaned m k s (cleanable_at m s))
     (λ s. cleaned_moves b slots m k s (cleanable_at m s)))
 leaves_cycle m b slots (Prepare k) (Prepared rid) fresh = inl (prepared_moves b slots m k fresh rid)
-leaves_cycle m b slots (Prepare k) a fresh = inl refl
 leaves_cycle m b slots (Opened k outcome) a fresh =
     inl (on_moves b slots m (guard_fenced m k) (λ m g. opened m k g outcome) (λ g. opened_moves b slots m k g outcome))
 leaves_cycle m b slots (CheckOut k h) a fresh =
@@ -317,15 +235,9 @@ leaves_cycle m b slots (Finish by action outcome) a fresh =
 leaves_cycle m b slots (Bind k name h) a fresh =
     inl (on_moves b slots m (slot_named m k h) (λ m s. record m { names = bound m.names name s }) (λ s. refl))
 leaves_cycle m b slots (Find k name) a fresh = inl (given_moves b slots m k (given m (Find k name)))
-leaves_cycle m b slots (Unbind k name) a fresh = inl refl
-leaves_cycle m b slots (Names k) a fresh = inl refl
-leaves_cycle m b slots (Full k mode) a fresh = inl refl
-leaves_cycle m b slots (Stat k) a fresh = inl refl
-leaves_cycle m b slots (Notes k) a fresh = inl refl
-leaves_cycle m b slots (Faults k) a fresh = inl refl
 leaves_cycle m b slots HandOver a fresh = inl (handed_over_moves b slots m m.pending)
 leaves_cycle m b slots TakeUp a fresh =
     inl (ap (line_taken (with_cycle m b slots)) (same_line m b slots m.line) ∙ line_taken_moves b slots m (from_lined m m.line))
 leaves_cycle m b slots Begin a fresh = inr (inl refl)
-leaves_cycle m b slots Collect a fresh = inl refl
 leaves_cycle m b slots Abandon a fresh = inr (inr refl)
+leaves_cycle m b slots asked a fresh = inl refl

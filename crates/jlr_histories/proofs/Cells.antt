@@ -21,10 +21,10 @@ use Rattle.jlr_machine.specs.declared.ask.Outcome.TheVariants.{Ok as OutcomeOk, 
 use Rattle.jlr_machine.specs.declared.ask.Handed.{Handed}
 use Rattle.jlr_machine.specs.declared.ask.Handed.TheVariants.{Queued as HandedQueued, Lined as HandedLined, Skipped, Nothing}
 use Rattle.jlr_machine.specs.declared.ask.Ask.{Ask}
-use Rattle.jlr_machine.specs.declared.ask.Ask.TheVariants.{Join, Leave, New, Put, Get, SetInt, Int, Dup, Drop, Same, MakeRef, Deref, Refers}
-use Rattle.jlr_machine.specs.declared.ask.Ask.TheVariants.{Clear, Enqueue, Enqueued, MakeQueue, Poll, Remove, MakeCleaner, Register, Clean}
-use Rattle.jlr_machine.specs.declared.ask.Ask.TheVariants.{Prepare, Opened, CheckOut, CheckIn, Close, Finish, Bind, Find, Unbind, Names}
-use Rattle.jlr_machine.specs.declared.ask.Ask.TheVariants.{Full, Stat, Notes, Faults, HandOver, TakeUp, Begin, Collect, Abandon, Array}
+use Rattle.jlr_machine.specs.declared.ask.Ask.TheVariants.{New, Put, Get, SetInt, Dup, MakeRef, Deref}
+use Rattle.jlr_machine.specs.declared.ask.Ask.TheVariants.{Clear, Enqueue, MakeQueue, Poll, Remove, MakeCleaner, Register, Clean}
+use Rattle.jlr_machine.specs.declared.ask.Ask.TheVariants.{Prepare, Opened, CheckOut, CheckIn, Close, Finish, Bind, Find}
+use Rattle.jlr_machine.specs.declared.ask.Ask.TheVariants.{HandOver, TakeUp, Array}
 use Rattle.jlr_machine.specs.declared.ask.Answer.{Answer}
 use Rattle.jlr_machine.specs.declared.ask.Answer.TheVariants.{Prepared}
 use Rattle.jlr_machine.specs.Objects.{at, as_reference, with_field, with_reference, with_members, with_cleanable, queue_ahead, is_spent}
@@ -148,8 +148,6 @@ free_again_cells m by = elim (by == 255) as (λ d. SameCells m (cond d m (with_c
 -- ---- What is left
 
 pub same_cells : (m : Machine) (ask : Ask) (a : Answer) (fresh : List ℕ) → SameCells m (after m ask a fresh)
-same_cells m (Join k) a fresh = refl
-same_cells m (Leave k) a fresh = refl
 same_cells m (New k layout) a fresh = made_cells m k fresh (Plain (Typed (map blank layout)))
 same_cells m (Array k size) a fresh = made_cells m k fresh (Plain (Elements (replicate size None)))
 same_cells m (Put k h f v) a fresh = on_cells m (slot_named m k h) (λ s. with_object m s (with_field f (RefValue (slot_named m k v))))
@@ -157,18 +155,13 @@ same_cells m (Put k h f v) a fresh = on_cells m (slot_named m k h) (λ s. with_o
 same_cells m (Get k h f) a fresh = given_cells m k (given m (Get k h f))
 same_cells m (SetInt k h f number) a fresh = on_cells m (slot_named m k h) (λ s. with_object m s (with_field f (IntValue number)))
     (λ s. object_cells m s (with_field f (IntValue number)))
-same_cells m (Int k h f) a fresh = refl
 same_cells m (Dup k h) a fresh = given_cells m k (given m (Dup k h))
-same_cells m (Drop k h) a fresh = refl
-same_cells m (Same k x y) a fresh = refl
 same_cells m (MakeRef k kind h q) a fresh =
     made_cells m k fresh (Reference (record { kind = kind; referent = slot_named m k h; queue = slot_named m k q; state = Fresh }))
 same_cells m (Deref k r) a fresh = given_cells m k (given m (Deref k r))
-same_cells m (Refers k r h) a fresh = refl
 same_cells m (Clear k r) a fresh =
     on_cells m (slot_named m k r) (λ s. with_object m s (with_reference unreferred)) (λ s. object_cells m s (with_reference unreferred))
 same_cells m (Enqueue k r) a fresh = on_cells m (slot_named m k r) (enqueued m) (enqueued_cells m)
-same_cells m (Enqueued k r) a fresh = refl
 same_cells m (MakeQueue k) a fresh = made_cells m k fresh (Queue [])
 same_cells m (Poll k q) a fresh = poll_given_cells m k q (given m (Poll k q))
 same_cells m (Remove k q) a fresh = poll_given_cells m k q (given m (Remove k q))
@@ -177,7 +170,6 @@ same_cells m (Register k d h note) a fresh = made_cells m k fresh (registered m 
 same_cells m (Clean k d) a fresh =
     on_cells m (slot_named m k d) (λ s. cleaned m k s (cleanable_at m s)) (λ s. cleaned_cells m k s (cleanable_at m s))
 same_cells m (Prepare k) (Prepared rid) fresh = prepared_cells m k fresh rid
-same_cells m (Prepare k) a fresh = refl
 same_cells m (Opened k outcome) a fresh = on_cells m (guard_fenced m k) (λ g. opened m k g outcome) (λ g. opened_cells m k g outcome)
 same_cells m (CheckOut k h) a fresh = on_cells m (guard_named m k h) (checked_out m k (slot_named m k h)) (λ g. refl)
 same_cells m (CheckIn k outcome) a fresh = on_cells m (guard_fenced m k) (checked_in m k) (λ g. refl)
@@ -188,14 +180,6 @@ same_cells m (Finish by action outcome) a fresh =
     (λ job. free_again_cells (finished m job outcome) by ∙ finished_cells m job outcome)
 same_cells m (Bind k name h) a fresh = on_cells m (slot_named m k h) (λ s. record m { names = bound m.names name s }) (λ s. refl)
 same_cells m (Find k name) a fresh = given_cells m k (given m (Find k name))
-same_cells m (Unbind k name) a fresh = refl
-same_cells m (Names k) a fresh = refl
-same_cells m (Full k mode) a fresh = refl
-same_cells m (Stat k) a fresh = refl
-same_cells m (Notes k) a fresh = refl
-same_cells m (Faults k) a fresh = refl
 same_cells m HandOver a fresh = handed_over_cells m m.pending
 same_cells m TakeUp a fresh = line_taken_cells m (from_lined m m.line)
-same_cells m Begin a fresh = refl
-same_cells m Collect a fresh = refl
-same_cells m Abandon a fresh = refl
+same_cells m asked a fresh = refl

@@ -8,10 +8,10 @@ use Rattle.jlr_machine.specs.declared.object.Cleanable.{Cleanable as CleanableOf
 use Rattle.jlr_machine.specs.declared.machine.Binding.{Binding}
 use Rattle.jlr_machine.specs.declared.machine.Machine.{Machine}
 use Rattle.jlr_machine.specs.declared.ask.Ask.{Ask}
-use Rattle.jlr_machine.specs.declared.ask.Ask.TheVariants.{Join, Leave, New, Put, Get, SetInt, Int, Dup, Drop, Same, MakeRef, Deref, Refers}
-use Rattle.jlr_machine.specs.declared.ask.Ask.TheVariants.{Clear, Enqueue, Enqueued, MakeQueue, Poll, Remove, MakeCleaner, Register, Clean}
-use Rattle.jlr_machine.specs.declared.ask.Ask.TheVariants.{Prepare, Opened, CheckOut, CheckIn, Close, Finish, Bind, Find, Unbind, Names}
-use Rattle.jlr_machine.specs.declared.ask.Ask.TheVariants.{Full, Stat, Notes, Faults, HandOver, TakeUp, Begin, Collect, Abandon, Array}
+use Rattle.jlr_machine.specs.declared.ask.Ask.TheVariants.{New, Get, Int, Dup, MakeRef, Deref, Refers}
+use Rattle.jlr_machine.specs.declared.ask.Ask.TheVariants.{Enqueue, Enqueued, MakeQueue, Poll, Remove, MakeCleaner, Register, Clean}
+use Rattle.jlr_machine.specs.declared.ask.Ask.TheVariants.{Prepare, Opened, CheckOut, CheckIn, Close, Finish, Find, Names}
+use Rattle.jlr_machine.specs.declared.ask.Ask.TheVariants.{Notes, Faults, HandOver, TakeUp, Collect, Array}
 use Rattle.jlr_machine.specs.declared.ask.Outcome.{Outcome}
 use Rattle.jlr_machine.specs.declared.ask.Outcome.TheVariants.{Ok as OutcomeOk, Failed}
 use Rattle.jlr_machine.specs.declared.ask.CallOutcome.{CallOutcome}
@@ -77,20 +77,13 @@ module _ (room : Rooms) where
   -- what is answered where the ask is carried out in a well-formed machine
   answered : (m : Machine) (ask : Ask) (o : Option Collected) (a : Answer) → length m.names ≤ 256 → length m.notes ≤ 256
       → length m.faults ≤ 256 → HasRoomFor ask room → Answers m ask o a → FitsRooms room a
-  answered m (Join k) o a x y z r e = plainly answer.Done a e tt
-  answered m (Leave k) o a x y z r e = plainly answer.Done a e tt
   answered m (New k layout) o a x y z r e = handle m k a e
-  answered m (Put k h f v) o a x y z r e = plainly answer.Done a e tt
   answered m (Get k h f) o a x y z r e = handle_or_null m k (given m (Get k h f)) a e
-  answered m (SetInt k h f n) o a x y z r e = plainly answer.Done a e tt
   answered m (Int k h f) o a x y z r e = number (field_named m k h f) a e
   answered m (Dup k h) o a x y z r e = handle_or_null m k (given m (Dup k h)) a e
-  answered m (Drop k h) o a x y z r e = plainly answer.Done a e tt
-  answered m (Same k p q) o a x y z r e = plainly _ a e tt
   answered m (MakeRef k kind h q) o a x y z r e = handle m k a e
   answered m (Deref k s) o a x y z r e = handle_or_null m k (given m (Deref k s)) a e
   answered m (Refers k s h) o a x y z r e = mapped _ _ a (λ _. tt) e
-  answered m (Clear k s) o a x y z r e = plainly answer.Done a e tt
   answered m (Enqueue k s) o a x y z r e = mapped _ _ a (λ _. tt) e
   answered m (Enqueued k s) o a x y z r e = mapped _ _ a (λ _. tt) e
   answered m (MakeQueue k) o a x y z r e = handle m k a e
@@ -105,21 +98,16 @@ module _ (room : Rooms) where
   answered m (CheckIn k outcome) o a x y z r e = plainly (call_answer outcome) a e (called k outcome r)
   answered m (Close k h) o a x y z r e = mapped take_up_answer _ a taken_up e
   answered m (Finish by action outcome) o a x y z r e = ended outcome (Some answer.Done) a (λ f. plainly answer.Done a f tt) e
-  answered m (Bind k name h) o a x y z r e = plainly answer.Done a e tt
   answered m (Find k name) o a x y z r e = handle m k a e
-  answered m (Unbind k name) o a x y z r e = plainly answer.Done a e tt
   answered m (Names k) o a x y z r e = plainly (answer.Names (bound_names m.names)) a e
       (let l = length-map {A = Binding} {B = List ℕ} m.names (λ b. b.name) in omega (arith, l, x, r))
-  answered m (Full k mode) o a x y z r e = plainly answer.Done a e tt
-  answered m (Stat k) o a x y z r e = plainly _ a e tt
   answered m (Notes k) o a x y z r e = plainly (answer.Notes m.notes) a e (omega (arith, y, r))
   answered m (Faults k) o a x y z r e = plainly (answer.Faults m.faults) a e (omega (arith, z, r))
   answered m HandOver o a x y z r e = handed_over m m.pending a e
   answered m TakeUp o a x y z r e = lined_up m (from_lined m m.line) a e
-  answered m Begin o a x y z r e = plainly _ a e tt
   answered m Collect o a x y z r e = subst (FitsRooms room) (sym e) tt
-  answered m Abandon o a x y z r e = plainly _ a e tt
   answered m (Array k n) o a x y z r e = handle m k a e
+  answered m asked o a x y z r e = plainly _ a e tt
 
 -- a collection leaves the names and what was recorded
 after_collected : (m : Machine) (o : Option Collected) → IsWellFormed m → (length (with_collection m o).names ≤ 256)

@@ -12,10 +12,10 @@ use Rattle.jlr_machine.specs.declared.machine.Machine.{Machine}
 use Rattle.jlr_machine.specs.declared.ask.Handed.{Handed}
 use Rattle.jlr_machine.specs.declared.ask.Handed.TheVariants.{Queued as HandedQueued, Lined as HandedLined, Skipped, Nothing}
 use Rattle.jlr_machine.specs.declared.ask.Ask.{Ask}
-use Rattle.jlr_machine.specs.declared.ask.Ask.TheVariants.{Join, Leave, New, Put, Get, SetInt, Int, Dup, Drop, Same, MakeRef, Deref, Refers}
+use Rattle.jlr_machine.specs.declared.ask.Ask.TheVariants.{New, Put, Get, SetInt, Int, Dup, MakeRef, Deref, Refers}
 use Rattle.jlr_machine.specs.declared.ask.Ask.TheVariants.{Clear, Enqueue, Enqueued, MakeQueue, Poll, Remove, MakeCleaner, Register, Clean}
-use Rattle.jlr_machine.specs.declared.ask.Ask.TheVariants.{Prepare, Opened, CheckOut, CheckIn, Close, Finish, Bind, Find, Unbind, Names}
-use Rattle.jlr_machine.specs.declared.ask.Ask.TheVariants.{Full, Stat, Notes, Faults, HandOver, TakeUp, Begin, Collect, Abandon, Array}
+use Rattle.jlr_machine.specs.declared.ask.Ask.TheVariants.{Prepare, Opened, CheckOut, CheckIn, Close, Finish, Bind, Find}
+use Rattle.jlr_machine.specs.declared.ask.Ask.TheVariants.{HandOver, TakeUp, Collect, Array}
 use Rattle.jlr_machine.specs.declared.ask.Answer.{Answer}
 use Rattle.jlr_machine.specs.declared.ask.Answer.TheVariants.{Handle, Job, Prepared, Out as OutAnswer, Refused}
 use Rattle.jlr_machine.specs.declared.entry.Collected.{Collected}
@@ -132,8 +132,6 @@ handed_over_same m (s ∷ rest) =
 
 pub other_still : (m : Machine) (ask : Ask) (o : Option Collected) (a : Answer) (fresh : List ℕ) → touches ask ≡ false → Answers m ask o a
     → IsStill m (after m ask a fresh) a
-other_still m (Join k) o a fresh t h = record { nothing = plain hands_out _ refl a h; same = refl }
-other_still m (Leave k) o a fresh t h = record { nothing = plain hands_out _ refl a h; same = refl }
 other_still m (New k layout) o a fresh t h =
     record { nothing = handle m k a h; same = made_same m k fresh (Plain (Typed (map blank layout))) }
 other_still m (Array k size) o a fresh t h =
@@ -151,8 +149,6 @@ other_still m (SetInt k d f v) o a fresh t h = record {
 other_still m (Int k d f) o a fresh t h = record { nothing = number (field_named m k d f) a h; same = refl }
 other_still m (Dup k d) o a fresh t h =
     record { nothing = object_given m k (given m (Dup k d)) a h; same = given_same m k (given m (Dup k d)) }
-other_still m (Drop k d) o a fresh t h = record { nothing = plain hands_out _ refl a h; same = refl }
-other_still m (Same k d g) o a fresh t h = record { nothing = plain hands_out _ refl a h; same = refl }
 other_still m (MakeRef k kind d q) o a fresh t h =
     record {
       nothing = handle m k a h;
@@ -181,17 +177,17 @@ other_still m (Bind k name d) o a fresh t h = record {
   same = on_same m (slot_named m k d) (λ s. record m { names = bound m.names name s }) (λ s. refl);
 }
 other_still m (Find k name) o a fresh t h = record { nothing = handle m k a h; same = given_same m k (given m (Find k name)) }
-other_still m (Unbind k name) o a fresh t h = record { nothing = plain hands_out _ refl a h; same = refl }
-other_still m (Names k) o a fresh t h = record { nothing = plain hands_out _ refl a h; same = refl }
-other_still m (Full k mode) o a fresh t h = record { nothing = plain hands_out _ refl a h; same = refl }
-other_still m (Stat k) o a fresh t h = record { nothing = plain hands_out _ refl a h; same = refl }
-other_still m (Notes k) o a fresh t h = record { nothing = plain hands_out _ refl a h; same = refl }
-other_still m (Faults k) o a fresh t h = record { nothing = plain hands_out _ refl a h; same = refl }
 other_still m HandOver o a fresh t h = record { nothing = handed_on m m.pending a h; same = handed_over_same m m.pending }
-other_still m Begin o a fresh t h = record { nothing = plain hands_out _ refl a h; same = refl }
 other_still m Collect o a fresh t h = record { nothing = ap hands_out h; same = refl }
-other_still m Abandon o a fresh t h = record { nothing = plain hands_out _ refl a h; same = refl }
-other_still m ask o a fresh t h = absurd (both_ways true t refl)
+other_still m (Clean k d) o a fresh t h = absurd (both_ways true t refl)
+other_still m (Prepare k) o a fresh t h = absurd (both_ways true t refl)
+other_still m (Opened k outcome) o a fresh t h = absurd (both_ways true t refl)
+other_still m (CheckOut k d) o a fresh t h = absurd (both_ways true t refl)
+other_still m (CheckIn k outcome) o a fresh t h = absurd (both_ways true t refl)
+other_still m (Close k d) o a fresh t h = absurd (both_ways true t refl)
+other_still m (Finish by action outcome) o a fresh t h = absurd (both_ways true t refl)
+other_still m TakeUp o a fresh t h = absurd (both_ways true t refl)
+other_still m asked o a fresh t h = record { nothing = plain hands_out _ refl a h; same = refl }
 
 -- an answer that hands out nothing lets nothing begin
 pub no_deed : (m : Machine) (ask : Ask) (a : Answer) → hands_out a ≡ false → ended_by m ask ≡ None → deed_of m ask a ≡ None

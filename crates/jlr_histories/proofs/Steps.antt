@@ -19,10 +19,10 @@ use Rattle.jlr_machine.specs.declared.ask.Outcome.TheVariants.{Ok as OutcomeOk, 
 use Rattle.jlr_machine.specs.declared.ask.FullMode.{FullMode}
 use Rattle.jlr_machine.specs.declared.ask.FullMode.TheVariants.{Policy, ClearAll}
 use Rattle.jlr_machine.specs.declared.ask.Ask.{Ask}
-use Rattle.jlr_machine.specs.declared.ask.Ask.TheVariants.{Join, Leave, New, Put, Get, SetInt, Int, Dup, Drop, Same, MakeRef, Deref, Refers}
+use Rattle.jlr_machine.specs.declared.ask.Ask.TheVariants.{New, Put, Get, SetInt, Int, Dup, Drop, Same, MakeRef, Deref, Refers}
 use Rattle.jlr_machine.specs.declared.ask.Ask.TheVariants.{Clear, Enqueue, Enqueued, MakeQueue, Poll, Remove, MakeCleaner, Register, Clean}
-use Rattle.jlr_machine.specs.declared.ask.Ask.TheVariants.{Prepare, Opened, CheckOut, CheckIn, Close, Finish, Bind, Find, Unbind, Names}
-use Rattle.jlr_machine.specs.declared.ask.Ask.TheVariants.{Full, Stat, Notes, Faults, HandOver, TakeUp, Begin, Collect, Abandon, Array}
+use Rattle.jlr_machine.specs.declared.ask.Ask.TheVariants.{Prepare, Opened, CheckOut, CheckIn, Close, Finish, Bind, Find}
+use Rattle.jlr_machine.specs.declared.ask.Ask.TheVariants.{Full, HandOver, TakeUp, Collect, Array}
 use Rattle.jlr_machine.specs.declared.ask.Answer.{Answer}
 use Rattle.jlr_machine.specs.declared.ask.Answer.TheVariants.{Refused}
 use Rattle.jlr_machine.specs.declared.entry.Entry.{Entry}
@@ -204,10 +204,6 @@ finish_quiet m job outcome by =
 
 step_done : (m : Machine) → IsWellFormed m → (seat : ℕ) (ask : Ask) (answer : Answer) (choice : Chosen)
     → IsCarriedOut m (entry seat ask answer choice) → StepOf m seat ask answer choice
-step_done m w seat (Join k) answer choice c =
-    quietly m seat (Join k) answer choice c (λ x h. no_need m h.0) refl (λ a fresh. record { objects = refl; next = refl; taken = refl })
-step_done m w seat (Leave k) answer choice c =
-    quietly m seat (Leave k) answer choice c (λ x h. no_need m h.0) refl (λ a fresh. record { objects = refl; next = refl; taken = refl })
 step_done m w seat (New k layout) answer choice c =
     making m seat (New k layout) answer choice c (λ x h. h.1.full)
     (λ n o a one. made_by n (New k layout) answer choice.fresh a
@@ -305,32 +301,19 @@ step_done m w seat (Bind k name h) answer choice c =
     (λ s. record { objects = refl; next = refl; taken = refl }))
 step_done m w seat (Find k name) answer choice c =
     quietly m seat (Find k name) answer choice c (λ x h. no_need m h.0) refl (λ a fresh. given_quiet m k (given m (Find k name)))
-step_done m w seat (Unbind k name) answer choice c =
-    quietly m seat (Unbind k name) answer choice c (λ x h. no_need m h.0) refl
-    (λ a fresh. record { objects = refl; next = refl; taken = refl })
-step_done m w seat (Names k) answer choice c =
-    quietly m seat (Names k) answer choice c (λ x h. no_need m h.0) refl (λ a fresh. record { objects = refl; next = refl; taken = refl })
 step_done m w seat (Full k mode) answer choice c =
     collecting m seat (Full k mode) answer choice c refl (λ n. full_quiet n k mode answer choice.fresh)
     (λ x h. (roots m, full_of m k mode x h))
-step_done m w seat (Stat k) answer choice c =
-    quietly m seat (Stat k) answer choice c (λ x h. no_need m h.0) refl (λ a fresh. record { objects = refl; next = refl; taken = refl })
-step_done m w seat (Notes k) answer choice c =
-    quietly m seat (Notes k) answer choice c (λ x h. no_need m h.0) refl (λ a fresh. record { objects = refl; next = refl; taken = refl })
-step_done m w seat (Faults k) answer choice c =
-    quietly m seat (Faults k) answer choice c (λ x h. no_need m h.0) refl (λ a fresh. record { objects = refl; next = refl; taken = refl })
 step_done m w seat HandOver answer choice c =
     plainly m seat HandOver answer choice c (λ x h. no_need m h.0) refl
     (λ a fresh. handed_over_over (Clears m HandOver choice) m w m.pending)
 step_done m w seat TakeUp answer choice c =
     plainly m seat TakeUp answer choice c (λ x h. no_need m h.0) refl
     (λ a fresh. line_over (Clears m TakeUp choice) m (from_lined m m.line))
-step_done m w seat Begin answer choice c =
-    quietly m seat Begin answer choice c (λ x h. no_need m h.0) refl (λ a fresh. record { objects = refl; next = refl; taken = refl })
 step_done m w seat Collect answer choice c =
     collecting m seat Collect answer choice c refl (λ n. collect_quiet n answer choice.fresh) (λ x h. (roots m ++ x.kept, h.1.collection))
-step_done m w seat Abandon answer choice c =
-    quietly m seat Abandon answer choice c (λ x h. no_need m h.0) refl (λ a fresh. record { objects = refl; next = refl; taken = refl })
+step_done m w seat asked answer choice c =
+    quietly m seat asked answer choice c (λ x h. no_need m h.0) refl (λ a fresh. record { objects = refl; next = refl; taken = refl })
 
 -- ---- Each legal entry
 

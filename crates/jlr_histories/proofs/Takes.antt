@@ -22,10 +22,10 @@ use Rattle.jlr_machine.specs.declared.ask.CallOutcome.TheVariants.{Data as GotDa
 use Rattle.jlr_machine.specs.declared.ask.Handed.{Handed}
 use Rattle.jlr_machine.specs.declared.ask.Handed.TheVariants.{Queued as HandedQueued, Lined as HandedLined, Skipped, Nothing}
 use Rattle.jlr_machine.specs.declared.ask.Ask.{Ask}
-use Rattle.jlr_machine.specs.declared.ask.Ask.TheVariants.{Join, Leave, New, Put, Get, SetInt, Int, Dup, Drop, Same, MakeRef, Deref, Refers}
+use Rattle.jlr_machine.specs.declared.ask.Ask.TheVariants.{New, Put, Get, SetInt, Int, Dup, MakeRef, Deref, Refers}
 use Rattle.jlr_machine.specs.declared.ask.Ask.TheVariants.{Clear, Enqueue, Enqueued, MakeQueue, Poll, Remove, MakeCleaner, Register, Clean}
-use Rattle.jlr_machine.specs.declared.ask.Ask.TheVariants.{Prepare, Opened, CheckOut, CheckIn, Close, Finish, Bind, Find, Unbind, Names}
-use Rattle.jlr_machine.specs.declared.ask.Ask.TheVariants.{Full, Stat, Notes, Faults, HandOver, TakeUp, Begin, Collect, Abandon, Array}
+use Rattle.jlr_machine.specs.declared.ask.Ask.TheVariants.{Prepare, Opened, CheckOut, CheckIn, Close, Finish, Bind, Find}
+use Rattle.jlr_machine.specs.declared.ask.Ask.TheVariants.{HandOver, TakeUp, Collect, Array}
 use Rattle.jlr_machine.specs.declared.ask.Answer.{Answer}
 use Rattle.jlr_machine.specs.declared.ask.Answer.TheVariants.{Handle, Job, AlreadyDone, Refused}
 use Rattle.jlr_machine.specs.declared.entry.Entry.{Entry}
@@ -267,10 +267,6 @@ takes m seat ask answer choice c never h =
 
 taking_done : (m : Machine) (seat : ℕ) (ask : Ask) (answer : Answer) (choice : Chosen) → IsCarriedOut m (entry seat ask answer choice)
     → TakingOf m seat ask answer choice
-taking_done m seat (Join k) answer choice c =
-    none_taken m seat (Join k) answer choice c (λ n o a. record { no_job = plain _ refl answer a; same = refl })
-taking_done m seat (Leave k) answer choice c =
-    none_taken m seat (Leave k) answer choice c (λ n o a. record { no_job = plain _ refl answer a; same = refl })
 taking_done m seat (New k layout) answer choice c =
     none_taken m seat (New k layout) answer choice c
     (λ n o a. record { no_job = handle n k answer a; same = made_taken n k choice.fresh (Plain (Typed (map blank layout))) })
@@ -297,10 +293,6 @@ taking_done m seat (Int k h f) answer choice c =
     none_taken m seat (Int k h f) answer choice c (λ n o a. record { no_job = number (field_named n k h f) answer a; same = refl })
 taking_done m seat (Dup k h) answer choice c = none_taken m seat (Dup k h) answer choice c
     (λ n o a. record { no_job = object_given n k (given n (Dup k h)) answer a; same = (given_quiet n k (given n (Dup k h))).taken })
-taking_done m seat (Drop k h) answer choice c =
-    none_taken m seat (Drop k h) answer choice c (λ n o a. record { no_job = plain _ refl answer a; same = refl })
-taking_done m seat (Same k h g) answer choice c =
-    none_taken m seat (Same k h g) answer choice c (λ n o a. record { no_job = plain _ refl answer a; same = refl })
 taking_done m seat (MakeRef k kind h q) answer choice c =
     none_taken m seat (MakeRef k kind h q) answer choice c
     (λ n o a. record {
@@ -386,28 +378,14 @@ taking_done m seat (Bind k name h) answer choice c =
 taking_done m seat (Find k name) answer choice c =
     none_taken m seat (Find k name) answer choice c (λ n o a.
     record { no_job = handle n k answer a; same = (given_quiet n k (given n (Find k name))).taken })
-taking_done m seat (Unbind k name) answer choice c =
-    none_taken m seat (Unbind k name) answer choice c (λ n o a. record { no_job = plain _ refl answer a; same = refl })
-taking_done m seat (Names k) answer choice c =
-    none_taken m seat (Names k) answer choice c (λ n o a. record { no_job = plain _ refl answer a; same = refl })
-taking_done m seat (Full k mode) answer choice c =
-    none_taken m seat (Full k mode) answer choice c (λ n o a. record { no_job = plain _ refl answer a; same = refl })
-taking_done m seat (Stat k) answer choice c =
-    none_taken m seat (Stat k) answer choice c (λ n o a. record { no_job = plain _ refl answer a; same = refl })
-taking_done m seat (Notes k) answer choice c =
-    none_taken m seat (Notes k) answer choice c (λ n o a. record { no_job = plain _ refl answer a; same = refl })
-taking_done m seat (Faults k) answer choice c =
-    none_taken m seat (Faults k) answer choice c (λ n o a. record { no_job = plain _ refl answer a; same = refl })
 taking_done m seat HandOver answer choice c = none_taken m seat HandOver answer choice c
     (λ n o a. record { no_job = handed_job n n.pending answer a; same = handed_over_taken n n.pending })
 taking_done m seat TakeUp answer choice c =
     takes m seat TakeUp answer choice c (λ x g. no_need m g.0) (λ a. line_taking m (from_lined m m.line) answer (first_lined m m.line) a)
-taking_done m seat Begin answer choice c =
-    none_taken m seat Begin answer choice c (λ n o a. record { no_job = plain _ refl answer a; same = refl })
 taking_done m seat Collect answer choice c =
     none_taken m seat Collect answer choice c (λ n o a. record { no_job = ap is_job a; same = refl })
-taking_done m seat Abandon answer choice c =
-    none_taken m seat Abandon answer choice c (λ n o a. record { no_job = plain _ refl answer a; same = refl })
+taking_done m seat asked answer choice c =
+    none_taken m seat asked answer choice c (λ n o a. record { no_job = plain _ refl answer a; same = refl })
 
 -- ---- Each legal entry
 

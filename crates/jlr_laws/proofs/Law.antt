@@ -5,8 +5,8 @@ use Rattle.jlr_machine.specs.declared.ask.Outcome.TheVariants.{Ok as OutcomeOk, 
 use Rattle.jlr_machine.specs.declared.ask.Ask.{Ask}
 use Rattle.jlr_machine.specs.declared.ask.Ask.TheVariants.{Join, Leave, New, Put, Get, SetInt, Int, Dup, Drop, Same, MakeRef, Deref, Refers}
 use Rattle.jlr_machine.specs.declared.ask.Ask.TheVariants.{Clear, Enqueue, Enqueued, MakeQueue, Poll, Remove, MakeCleaner, Register, Clean}
-use Rattle.jlr_machine.specs.declared.ask.Ask.TheVariants.{Prepare, Opened, CheckOut, CheckIn, Close, Finish, Bind, Find, Unbind, Names}
-use Rattle.jlr_machine.specs.declared.ask.Ask.TheVariants.{Full, Stat, Notes, Faults, HandOver, TakeUp, Begin, Collect, Abandon, Array}
+use Rattle.jlr_machine.specs.declared.ask.Ask.TheVariants.{Prepare, Opened, CheckOut, CheckIn, Close, Finish, Bind, Find, Unbind}
+use Rattle.jlr_machine.specs.declared.ask.Ask.TheVariants.{Full, HandOver, TakeUp, Begin, Collect, Abandon, Array}
 use Rattle.jlr_machine.specs.declared.ask.Answer.{Answer}
 use Rattle.jlr_machine.specs.declared.entry.Entry.{Entry}
 use Rattle.jlr_machine.specs.Chosen.{Chosen}
@@ -116,11 +116,7 @@ keeps_done m w seat (Find k name) answer choice c =
     keeps_plainly m w seat (Find k name) answer choice c (λ x h. no_need m h.0) (keeps_Find m w k name c.allowed)
 keeps_done m w seat (Unbind k name) answer choice c =
     keeps_plainly m w seat (Unbind k name) answer choice c (λ x h. no_need m h.0) (keeps_Unbind m w k name)
-keeps_done m w seat (Names k) answer choice c = keeps_plainly m w seat (Names k) answer choice c (λ x h. no_need m h.0) (λ a fresh. w)
 keeps_done m w seat (Full k mode) answer choice c = keeps_Full m w seat k mode answer choice c
-keeps_done m w seat (Stat k) answer choice c = keeps_plainly m w seat (Stat k) answer choice c (λ x h. no_need m h.0) (λ a fresh. w)
-keeps_done m w seat (Notes k) answer choice c = keeps_plainly m w seat (Notes k) answer choice c (λ x h. no_need m h.0) (λ a fresh. w)
-keeps_done m w seat (Faults k) answer choice c = keeps_plainly m w seat (Faults k) answer choice c (λ x h. no_need m h.0) (λ a fresh. w)
 keeps_done m w seat HandOver answer choice c =
     keeps_plainly m w seat HandOver answer choice c (λ x h. no_need m h.0) (keeps_HandOver m w c.allowed)
 keeps_done m w seat TakeUp answer choice c =
@@ -132,6 +128,7 @@ keeps_done m w seat (Array k n) answer choice c =
     keeps_making m w seat (Array k n) answer choice c (λ x h. h.1.full) (λ x h. refl)
     (λ l v r f. keeps_Array l v k n r answer choice.fresh f)
 keeps_done m w seat Abandon answer choice c = keeps_plainly m w seat Abandon answer choice c (λ x h. no_need m h.0) (keeps_Abandon m w)
+keeps_done m w seat asked answer choice c = keeps_plainly m w seat asked answer choice c (λ x h. no_need m h.0) (λ a fresh. w)
 
 carried_out_kept : (m : Machine) → IsWellFormed m → (seat : ℕ) (ask : Ask) (answer : Answer) (choice : Chosen)
     → IsCarriedOut m (entry seat ask answer choice) → IsWellFormed (apply m (entry seat ask answer choice))

@@ -10,10 +10,8 @@ use Rattle.jlr_machine.specs.declared.entry.Entry.{Entry}
 use Rattle.jlr_machine.specs.Chosen.{Chosen}
 use Rattle.jlr_machine.specs.declared.entry.Collected.{Collected}
 use Rattle.jlr_machine.specs.declared.ask.Ask.{Ask}
-use Rattle.jlr_machine.specs.declared.ask.Ask.TheVariants.{Join, Leave, New, Put, Get, SetInt, Int, Dup, Drop, Same, MakeRef, Deref, Refers}
-use Rattle.jlr_machine.specs.declared.ask.Ask.TheVariants.{Clear, Enqueue, Enqueued, MakeQueue, Poll, Remove, MakeCleaner, Register, Clean}
-use Rattle.jlr_machine.specs.declared.ask.Ask.TheVariants.{Prepare, Opened, CheckOut, CheckIn, Close, Finish, Bind, Find, Unbind, Names}
-use Rattle.jlr_machine.specs.declared.ask.Ask.TheVariants.{Full, Stat, Notes, Faults, HandOver, TakeUp, Begin, Collect, Abandon, Array}
+use Rattle.jlr_machine.specs.declared.ask.Ask.TheVariants.{Prepare}
+use Rattle.jlr_machine.specs.declared.ask.Ask.TheVariants.{Full, Collect}
 use Rattle.jlr_machine.specs.declared.ask.FullMode.TheVariants.{Policy, ClearAll}
 use Rattle.jlr_machine.specs.declared.ask.Answer.{Answer}
 use Rattle.jlr_machine.specs.declared.ask.Answer.TheVariants.{Done, Handle as HandleAnswer, Truth, Int as IntAnswer, Data, Wrote, Faulted}
@@ -136,46 +134,7 @@ Decides-reply m ask a =
 Decides-is_answer : (m : Machine) (ask : Ask) (c : Option Collected) (a : Answer) → Decides (is_answer m ask c a) (Answers m ask c a)
 Decides-is_answer m (Prepare k) c a = Decides-new_rid m a
 Decides-is_answer m Collect c a = Decides-answer a (Truth (is_some c))
-Decides-is_answer m (Join a0) c a = Decides-reply m (Join a0) a
-Decides-is_answer m (Leave a0) c a = Decides-reply m (Leave a0) a
-Decides-is_answer m (New a0 a1) c a = Decides-reply m (New a0 a1) a
-Decides-is_answer m (Put a0 a1 a2 a3) c a = Decides-reply m (Put a0 a1 a2 a3) a
-Decides-is_answer m (Get a0 a1 a2) c a = Decides-reply m (Get a0 a1 a2) a
-Decides-is_answer m (SetInt a0 a1 a2 a3) c a = Decides-reply m (SetInt a0 a1 a2 a3) a
-Decides-is_answer m (Int a0 a1 a2) c a = Decides-reply m (Int a0 a1 a2) a
-Decides-is_answer m (Dup a0 a1) c a = Decides-reply m (Dup a0 a1) a
-Decides-is_answer m (Drop a0 a1) c a = Decides-reply m (Drop a0 a1) a
-Decides-is_answer m (Same a0 a1 a2) c a = Decides-reply m (Same a0 a1 a2) a
-Decides-is_answer m (MakeRef a0 a1 a2 a3) c a = Decides-reply m (MakeRef a0 a1 a2 a3) a
-Decides-is_answer m (Deref a0 a1) c a = Decides-reply m (Deref a0 a1) a
-Decides-is_answer m (Refers a0 a1 a2) c a = Decides-reply m (Refers a0 a1 a2) a
-Decides-is_answer m (Clear a0 a1) c a = Decides-reply m (Clear a0 a1) a
-Decides-is_answer m (Enqueue a0 a1) c a = Decides-reply m (Enqueue a0 a1) a
-Decides-is_answer m (Enqueued a0 a1) c a = Decides-reply m (Enqueued a0 a1) a
-Decides-is_answer m (MakeQueue a0) c a = Decides-reply m (MakeQueue a0) a
-Decides-is_answer m (Poll a0 a1) c a = Decides-reply m (Poll a0 a1) a
-Decides-is_answer m (Remove a0 a1) c a = Decides-reply m (Remove a0 a1) a
-Decides-is_answer m (MakeCleaner a0) c a = Decides-reply m (MakeCleaner a0) a
-Decides-is_answer m (Register a0 a1 a2 a3) c a = Decides-reply m (Register a0 a1 a2 a3) a
-Decides-is_answer m (Clean a0 a1) c a = Decides-reply m (Clean a0 a1) a
-Decides-is_answer m (Opened a0 a1) c a = Decides-reply m (Opened a0 a1) a
-Decides-is_answer m (CheckOut a0 a1) c a = Decides-reply m (CheckOut a0 a1) a
-Decides-is_answer m (CheckIn a0 a1) c a = Decides-reply m (CheckIn a0 a1) a
-Decides-is_answer m (Close a0 a1) c a = Decides-reply m (Close a0 a1) a
-Decides-is_answer m (Finish a0 a1 a2) c a = Decides-reply m (Finish a0 a1 a2) a
-Decides-is_answer m (Bind a0 a1 a2) c a = Decides-reply m (Bind a0 a1 a2) a
-Decides-is_answer m (Find a0 a1) c a = Decides-reply m (Find a0 a1) a
-Decides-is_answer m (Unbind a0 a1) c a = Decides-reply m (Unbind a0 a1) a
-Decides-is_answer m (Names a0) c a = Decides-reply m (Names a0) a
-Decides-is_answer m (Full a0 a1) c a = Decides-reply m (Full a0 a1) a
-Decides-is_answer m (Stat a0) c a = Decides-reply m (Stat a0) a
-Decides-is_answer m (Notes a0) c a = Decides-reply m (Notes a0) a
-Decides-is_answer m (Faults a0) c a = Decides-reply m (Faults a0) a
-Decides-is_answer m HandOver c a = Decides-reply m HandOver a
-Decides-is_answer m TakeUp c a = Decides-reply m TakeUp a
-Decides-is_answer m Begin c a = Decides-reply m Begin a
-Decides-is_answer m Abandon c a = Decides-reply m Abandon a
-Decides-is_answer m (Array a0 a1) c a = Decides-reply m (Array a0 a1) a
+Decides-is_answer m asked c a = Decides-reply m asked a
 
 -- ---- Collections
 
@@ -193,93 +152,15 @@ module _ (m : Machine) (w : IsWithinHeap m.objects (roots m)) (i : IsSeenWithin 
       (Decides-clearing c)
 
   Decides-may_collect : (ask : Ask) (c : Option Collected) → Decides (may_have_collected m ask c) (MayCollect m ask c)
-  Decides-may_collect (Join a0) (Some c) = no_room (cells_needed (Join a0)) c
-  Decides-may_collect (Join a0) None = Decides-true (has_room m (cells_needed (Join a0)))
-  Decides-may_collect (Leave a0) (Some c) = no_room (cells_needed (Leave a0)) c
-  Decides-may_collect (Leave a0) None = Decides-true (has_room m (cells_needed (Leave a0)))
-  Decides-may_collect (New a0 a1) (Some c) = no_room (cells_needed (New a0 a1)) c
-  Decides-may_collect (New a0 a1) None = Decides-true (has_room m (cells_needed (New a0 a1)))
-  Decides-may_collect (Put a0 a1 a2 a3) (Some c) = no_room (cells_needed (Put a0 a1 a2 a3)) c
-  Decides-may_collect (Put a0 a1 a2 a3) None = Decides-true (has_room m (cells_needed (Put a0 a1 a2 a3)))
-  Decides-may_collect (Get a0 a1 a2) (Some c) = no_room (cells_needed (Get a0 a1 a2)) c
-  Decides-may_collect (Get a0 a1 a2) None = Decides-true (has_room m (cells_needed (Get a0 a1 a2)))
-  Decides-may_collect (SetInt a0 a1 a2 a3) (Some c) = no_room (cells_needed (SetInt a0 a1 a2 a3)) c
-  Decides-may_collect (SetInt a0 a1 a2 a3) None = Decides-true (has_room m (cells_needed (SetInt a0 a1 a2 a3)))
-  Decides-may_collect (Int a0 a1 a2) (Some c) = no_room (cells_needed (Int a0 a1 a2)) c
-  Decides-may_collect (Int a0 a1 a2) None = Decides-true (has_room m (cells_needed (Int a0 a1 a2)))
-  Decides-may_collect (Dup a0 a1) (Some c) = no_room (cells_needed (Dup a0 a1)) c
-  Decides-may_collect (Dup a0 a1) None = Decides-true (has_room m (cells_needed (Dup a0 a1)))
-  Decides-may_collect (Drop a0 a1) (Some c) = no_room (cells_needed (Drop a0 a1)) c
-  Decides-may_collect (Drop a0 a1) None = Decides-true (has_room m (cells_needed (Drop a0 a1)))
-  Decides-may_collect (Same a0 a1 a2) (Some c) = no_room (cells_needed (Same a0 a1 a2)) c
-  Decides-may_collect (Same a0 a1 a2) None = Decides-true (has_room m (cells_needed (Same a0 a1 a2)))
-  Decides-may_collect (MakeRef a0 a1 a2 a3) (Some c) = no_room (cells_needed (MakeRef a0 a1 a2 a3)) c
-  Decides-may_collect (MakeRef a0 a1 a2 a3) None = Decides-true (has_room m (cells_needed (MakeRef a0 a1 a2 a3)))
-  Decides-may_collect (Deref a0 a1) (Some c) = no_room (cells_needed (Deref a0 a1)) c
-  Decides-may_collect (Deref a0 a1) None = Decides-true (has_room m (cells_needed (Deref a0 a1)))
-  Decides-may_collect (Refers a0 a1 a2) (Some c) = no_room (cells_needed (Refers a0 a1 a2)) c
-  Decides-may_collect (Refers a0 a1 a2) None = Decides-true (has_room m (cells_needed (Refers a0 a1 a2)))
-  Decides-may_collect (Clear a0 a1) (Some c) = no_room (cells_needed (Clear a0 a1)) c
-  Decides-may_collect (Clear a0 a1) None = Decides-true (has_room m (cells_needed (Clear a0 a1)))
-  Decides-may_collect (Enqueue a0 a1) (Some c) = no_room (cells_needed (Enqueue a0 a1)) c
-  Decides-may_collect (Enqueue a0 a1) None = Decides-true (has_room m (cells_needed (Enqueue a0 a1)))
-  Decides-may_collect (Enqueued a0 a1) (Some c) = no_room (cells_needed (Enqueued a0 a1)) c
-  Decides-may_collect (Enqueued a0 a1) None = Decides-true (has_room m (cells_needed (Enqueued a0 a1)))
-  Decides-may_collect (MakeQueue a0) (Some c) = no_room (cells_needed (MakeQueue a0)) c
-  Decides-may_collect (MakeQueue a0) None = Decides-true (has_room m (cells_needed (MakeQueue a0)))
-  Decides-may_collect (Poll a0 a1) (Some c) = no_room (cells_needed (Poll a0 a1)) c
-  Decides-may_collect (Poll a0 a1) None = Decides-true (has_room m (cells_needed (Poll a0 a1)))
-  Decides-may_collect (Remove a0 a1) (Some c) = no_room (cells_needed (Remove a0 a1)) c
-  Decides-may_collect (Remove a0 a1) None = Decides-true (has_room m (cells_needed (Remove a0 a1)))
-  Decides-may_collect (MakeCleaner a0) (Some c) = no_room (cells_needed (MakeCleaner a0)) c
-  Decides-may_collect (MakeCleaner a0) None = Decides-true (has_room m (cells_needed (MakeCleaner a0)))
-  Decides-may_collect (Register a0 a1 a2 a3) (Some c) = no_room (cells_needed (Register a0 a1 a2 a3)) c
-  Decides-may_collect (Register a0 a1 a2 a3) None = Decides-true (has_room m (cells_needed (Register a0 a1 a2 a3)))
-  Decides-may_collect (Clean a0 a1) (Some c) = no_room (cells_needed (Clean a0 a1)) c
-  Decides-may_collect (Clean a0 a1) None = Decides-true (has_room m (cells_needed (Clean a0 a1)))
-  Decides-may_collect (Prepare a0) (Some c) = no_room (cells_needed (Prepare a0)) c
-  Decides-may_collect (Prepare a0) None = Decides-true (has_room m (cells_needed (Prepare a0)))
-  Decides-may_collect (Opened a0 a1) (Some c) = no_room (cells_needed (Opened a0 a1)) c
-  Decides-may_collect (Opened a0 a1) None = Decides-true (has_room m (cells_needed (Opened a0 a1)))
-  Decides-may_collect (CheckOut a0 a1) (Some c) = no_room (cells_needed (CheckOut a0 a1)) c
-  Decides-may_collect (CheckOut a0 a1) None = Decides-true (has_room m (cells_needed (CheckOut a0 a1)))
-  Decides-may_collect (CheckIn a0 a1) (Some c) = no_room (cells_needed (CheckIn a0 a1)) c
-  Decides-may_collect (CheckIn a0 a1) None = Decides-true (has_room m (cells_needed (CheckIn a0 a1)))
-  Decides-may_collect (Close a0 a1) (Some c) = no_room (cells_needed (Close a0 a1)) c
-  Decides-may_collect (Close a0 a1) None = Decides-true (has_room m (cells_needed (Close a0 a1)))
-  Decides-may_collect (Finish a0 a1 a2) (Some c) = no_room (cells_needed (Finish a0 a1 a2)) c
-  Decides-may_collect (Finish a0 a1 a2) None = Decides-true (has_room m (cells_needed (Finish a0 a1 a2)))
-  Decides-may_collect (Bind a0 a1 a2) (Some c) = no_room (cells_needed (Bind a0 a1 a2)) c
-  Decides-may_collect (Bind a0 a1 a2) None = Decides-true (has_room m (cells_needed (Bind a0 a1 a2)))
-  Decides-may_collect (Find a0 a1) (Some c) = no_room (cells_needed (Find a0 a1)) c
-  Decides-may_collect (Find a0 a1) None = Decides-true (has_room m (cells_needed (Find a0 a1)))
-  Decides-may_collect (Unbind a0 a1) (Some c) = no_room (cells_needed (Unbind a0 a1)) c
-  Decides-may_collect (Unbind a0 a1) None = Decides-true (has_room m (cells_needed (Unbind a0 a1)))
-  Decides-may_collect (Names a0) (Some c) = no_room (cells_needed (Names a0)) c
-  Decides-may_collect (Names a0) None = Decides-true (has_room m (cells_needed (Names a0)))
   Decides-may_collect (Full k Policy) (Some c) = Decides-full c
   Decides-may_collect (Full k ClearAll) (Some c) = Decides-clearing c
   Decides-may_collect (Full k Policy) None = ((λ h. absurd (both_ways false refl h)), (λ x. absurd x))
   Decides-may_collect (Full k ClearAll) None = ((λ h. absurd (both_ways false refl h)), (λ x. absurd x))
-  Decides-may_collect (Stat a0) (Some c) = no_room (cells_needed (Stat a0)) c
-  Decides-may_collect (Stat a0) None = Decides-true (has_room m (cells_needed (Stat a0)))
-  Decides-may_collect (Notes a0) (Some c) = no_room (cells_needed (Notes a0)) c
-  Decides-may_collect (Notes a0) None = Decides-true (has_room m (cells_needed (Notes a0)))
-  Decides-may_collect (Faults a0) (Some c) = no_room (cells_needed (Faults a0)) c
-  Decides-may_collect (Faults a0) None = Decides-true (has_room m (cells_needed (Faults a0)))
-  Decides-may_collect HandOver (Some c) = no_room (cells_needed HandOver) c
-  Decides-may_collect HandOver None = Decides-true (has_room m (cells_needed HandOver))
-  Decides-may_collect TakeUp (Some c) = no_room (cells_needed TakeUp) c
-  Decides-may_collect TakeUp None = Decides-true (has_room m (cells_needed TakeUp))
-  Decides-may_collect Begin (Some c) = no_room (cells_needed Begin) c
-  Decides-may_collect Begin None = Decides-true (has_room m (cells_needed Begin))
   Decides-may_collect Collect (Some c) =
       Decides-and m.cycle_open (is_background m c.kept c.pending) (Decides-true m.cycle_open) (background_is_decided m c.kept c.pending w i)
   Decides-may_collect Collect None = ((λ _. tt), (λ _. refl))
-  Decides-may_collect Abandon (Some c) = no_room (cells_needed Abandon) c
-  Decides-may_collect Abandon None = Decides-true (has_room m (cells_needed Abandon))
-  Decides-may_collect (Array a0 a1) (Some c) = no_room (cells_needed (Array a0 a1)) c
-  Decides-may_collect (Array a0 a1) None = Decides-true (has_room m (cells_needed (Array a0 a1)))
+  Decides-may_collect asked (Some c) = no_room (cells_needed asked) c
+  Decides-may_collect asked None = Decides-true (has_room m (cells_needed asked))
 
   -- ---- Entries
 

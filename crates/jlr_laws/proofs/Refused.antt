@@ -14,10 +14,10 @@ use Rattle.jlr_machine.specs.declared.ask.Outcome.TheVariants.{Ok as OutcomeOk, 
 use Rattle.jlr_machine.specs.declared.ask.CallOutcome.{CallOutcome}
 use Rattle.jlr_machine.specs.declared.ask.CallOutcome.TheVariants.{Data as GotData, Wrote as GotWrote, Failed as GotFailed}
 use Rattle.jlr_machine.specs.declared.ask.Ask.{Ask}
-use Rattle.jlr_machine.specs.declared.ask.Ask.TheVariants.{Join, Leave, New, Put, Get, SetInt, Int, Dup, Drop, Same, MakeRef, Deref, Refers}
-use Rattle.jlr_machine.specs.declared.ask.Ask.TheVariants.{Clear, Enqueue, Enqueued, MakeQueue, Poll, Remove, MakeCleaner, Register, Clean}
-use Rattle.jlr_machine.specs.declared.ask.Ask.TheVariants.{Prepare, Opened, CheckOut, CheckIn, Close, Finish, Bind, Find, Unbind, Names}
-use Rattle.jlr_machine.specs.declared.ask.Ask.TheVariants.{Full, Stat, Notes, Faults, HandOver, TakeUp, Begin, Collect, Abandon, Array}
+use Rattle.jlr_machine.specs.declared.ask.Ask.TheVariants.{Join, New, Get, Int, Dup, MakeRef, Deref, Refers}
+use Rattle.jlr_machine.specs.declared.ask.Ask.TheVariants.{Enqueue, Enqueued, MakeQueue, Poll, Remove, MakeCleaner, Register, Clean}
+use Rattle.jlr_machine.specs.declared.ask.Ask.TheVariants.{Prepare, Opened, CheckOut, CheckIn, Close, Finish, Find}
+use Rattle.jlr_machine.specs.declared.ask.Ask.TheVariants.{HandOver, TakeUp, Collect, Array}
 use Rattle.jlr_machine.specs.declared.ask.Answer.{Answer}
 use Rattle.jlr_machine.specs.declared.ask.Answer.TheVariants.{Refused, Handle, AlreadyDone, Job}
 use Rattle.jlr_machine.specs.declared.entry.Collected.{Collected}
@@ -39,47 +39,7 @@ use Rattle.jlr_laws.proofs.LegalKept.{no_need}
 
 pub lists_are_in_order : ListsAreInOrder
 lists_are_in_order (Join k) = refl
-lists_are_in_order (Leave k) = refl
-lists_are_in_order (New k layout) = refl
-lists_are_in_order (Put k h f v) = refl
-lists_are_in_order (Get k h f) = refl
-lists_are_in_order (SetInt k h f n) = refl
-lists_are_in_order (Int k h f) = refl
-lists_are_in_order (Dup k h) = refl
-lists_are_in_order (Drop k h) = refl
-lists_are_in_order (Same k a b) = refl
-lists_are_in_order (MakeRef k kind h q) = refl
-lists_are_in_order (Deref k r) = refl
-lists_are_in_order (Refers k r h) = refl
-lists_are_in_order (Clear k r) = refl
-lists_are_in_order (Enqueue k r) = refl
-lists_are_in_order (Enqueued k r) = refl
-lists_are_in_order (MakeQueue k) = refl
-lists_are_in_order (Poll k q) = refl
-lists_are_in_order (Remove k q) = refl
-lists_are_in_order (MakeCleaner k) = refl
-lists_are_in_order (Register k d h note) = refl
-lists_are_in_order (Clean k d) = refl
-lists_are_in_order (Prepare k) = refl
-lists_are_in_order (Opened k outcome) = refl
-lists_are_in_order (CheckOut k h) = refl
-lists_are_in_order (CheckIn k outcome) = refl
-lists_are_in_order (Close k h) = refl
-lists_are_in_order (Finish by action outcome) = refl
-lists_are_in_order (Bind k name h) = refl
-lists_are_in_order (Find k name) = refl
-lists_are_in_order (Unbind k name) = refl
-lists_are_in_order (Names k) = refl
-lists_are_in_order (Full k mode) = refl
-lists_are_in_order (Stat k) = refl
-lists_are_in_order (Notes k) = refl
-lists_are_in_order (Faults k) = refl
-lists_are_in_order HandOver = refl
-lists_are_in_order TakeUp = refl
-lists_are_in_order Begin = refl
-lists_are_in_order Collect = refl
-lists_are_in_order Abandon = refl
-lists_are_in_order (Array k n) = refl
+lists_are_in_order asked = refl
 
 -- ---- No answer of an ask that is carried out is a refusal
 
@@ -134,20 +94,13 @@ gives_lined m [] = from_some _ refl
 gives_lined m (s ∷ slots) = from_map take_up_answer gives_job (cleanable_at m s)
 
 pub gives_no_refusal : (m : Machine) (ask : Ask) → HoldsNoRefusal (reply m ask)
-gives_no_refusal m (Join k) = from_some _ refl
-gives_no_refusal m (Leave k) = from_some _ refl
 gives_no_refusal m (New k layout) = gives_handle m k
-gives_no_refusal m (Put k h f v) = from_some _ refl
 gives_no_refusal m (Get k h f) = gives_object m k (given m (Get k h f))
-gives_no_refusal m (SetInt k h f n) = from_some _ refl
 gives_no_refusal m (Int k h f) = gives_number (field_named m k h f)
 gives_no_refusal m (Dup k h) = gives_object m k (given m (Dup k h))
-gives_no_refusal m (Drop k h) = from_some _ refl
-gives_no_refusal m (Same k a b) = from_some _ refl
 gives_no_refusal m (MakeRef k kind h q) = gives_handle m k
 gives_no_refusal m (Deref k r) = gives_object m k (given m (Deref k r))
 gives_no_refusal m (Refers k r h) = from_map _ (λ x. refl) _
-gives_no_refusal m (Clear k r) = from_some _ refl
 gives_no_refusal m (Enqueue k r) = from_map _ (λ x. refl) _
 gives_no_refusal m (Enqueued k r) = from_map _ (λ x. refl) _
 gives_no_refusal m (MakeQueue k) = gives_handle m k
@@ -162,64 +115,17 @@ gives_no_refusal m (CheckOut k h) = from_map _ (λ x. refl) _
 gives_no_refusal m (CheckIn k outcome) = from_some _ (gives_call outcome)
 gives_no_refusal m (Close k h) = from_map take_up_answer gives_job _
 gives_no_refusal m (Finish by action outcome) = gives_outcome outcome _ (from_some _ refl)
-gives_no_refusal m (Bind k name h) = from_some _ refl
 gives_no_refusal m (Find k name) = gives_handle m k
-gives_no_refusal m (Unbind k name) = from_some _ refl
-gives_no_refusal m (Names k) = from_some _ refl
-gives_no_refusal m (Full k mode) = from_some _ refl
-gives_no_refusal m (Stat k) = from_some _ refl
-gives_no_refusal m (Notes k) = from_some _ refl
-gives_no_refusal m (Faults k) = from_some _ refl
 gives_no_refusal m HandOver = gives_handed m m.pending
 gives_no_refusal m TakeUp = gives_lined m (from_lined m m.line)
-gives_no_refusal m Begin = from_some _ refl
 gives_no_refusal m Collect = from_none
-gives_no_refusal m Abandon = from_some _ refl
 gives_no_refusal m (Array k n) = gives_handle m k
+gives_no_refusal m asked = from_some _ refl
 
 no_refusal : (m : Machine) (ask : Ask) (c : Option Collected) (a : Answer) → Answers m ask c a → is_refusal a ≡ false
-no_refusal m (Join k) chosen_ answer_ proof_ = gives_no_refusal m (Join k) answer_ proof_
-no_refusal m (Leave k) chosen_ answer_ proof_ = gives_no_refusal m (Leave k) answer_ proof_
-no_refusal m (New k layout) chosen_ answer_ proof_ = gives_no_refusal m (New k layout) answer_ proof_
-no_refusal m (Put k h f v) chosen_ answer_ proof_ = gives_no_refusal m (Put k h f v) answer_ proof_
-no_refusal m (Get k h f) chosen_ answer_ proof_ = gives_no_refusal m (Get k h f) answer_ proof_
-no_refusal m (SetInt k h f n) chosen_ answer_ proof_ = gives_no_refusal m (SetInt k h f n) answer_ proof_
-no_refusal m (Int k h f) chosen_ answer_ proof_ = gives_no_refusal m (Int k h f) answer_ proof_
-no_refusal m (Dup k h) chosen_ answer_ proof_ = gives_no_refusal m (Dup k h) answer_ proof_
-no_refusal m (Drop k h) chosen_ answer_ proof_ = gives_no_refusal m (Drop k h) answer_ proof_
-no_refusal m (Same k a b) chosen_ answer_ proof_ = gives_no_refusal m (Same k a b) answer_ proof_
-no_refusal m (MakeRef k kind h q) chosen_ answer_ proof_ = gives_no_refusal m (MakeRef k kind h q) answer_ proof_
-no_refusal m (Deref k r) chosen_ answer_ proof_ = gives_no_refusal m (Deref k r) answer_ proof_
-no_refusal m (Refers k r h) chosen_ answer_ proof_ = gives_no_refusal m (Refers k r h) answer_ proof_
-no_refusal m (Clear k r) chosen_ answer_ proof_ = gives_no_refusal m (Clear k r) answer_ proof_
-no_refusal m (Enqueue k r) chosen_ answer_ proof_ = gives_no_refusal m (Enqueue k r) answer_ proof_
-no_refusal m (Enqueued k r) chosen_ answer_ proof_ = gives_no_refusal m (Enqueued k r) answer_ proof_
-no_refusal m (MakeQueue k) chosen_ answer_ proof_ = gives_no_refusal m (MakeQueue k) answer_ proof_
-no_refusal m (Poll k q) chosen_ answer_ proof_ = gives_no_refusal m (Poll k q) answer_ proof_
-no_refusal m (Remove k q) chosen_ answer_ proof_ = gives_no_refusal m (Remove k q) answer_ proof_
-no_refusal m (MakeCleaner k) chosen_ answer_ proof_ = gives_no_refusal m (MakeCleaner k) answer_ proof_
-no_refusal m (Register k d h note) chosen_ answer_ proof_ = gives_no_refusal m (Register k d h note) answer_ proof_
-no_refusal m (Clean k d) chosen_ answer_ proof_ = gives_no_refusal m (Clean k d) answer_ proof_
 no_refusal m (Prepare k) chosen_ answer_ proof_ = ap is_refusal proof_.3
-no_refusal m (Opened k outcome) chosen_ answer_ proof_ = gives_no_refusal m (Opened k outcome) answer_ proof_
-no_refusal m (CheckOut k h) chosen_ answer_ proof_ = gives_no_refusal m (CheckOut k h) answer_ proof_
-no_refusal m (CheckIn k outcome) chosen_ answer_ proof_ = gives_no_refusal m (CheckIn k outcome) answer_ proof_
-no_refusal m (Close k h) chosen_ answer_ proof_ = gives_no_refusal m (Close k h) answer_ proof_
-no_refusal m (Finish by action outcome) chosen_ answer_ proof_ = gives_no_refusal m (Finish by action outcome) answer_ proof_
-no_refusal m (Bind k name h) chosen_ answer_ proof_ = gives_no_refusal m (Bind k name h) answer_ proof_
-no_refusal m (Find k name) chosen_ answer_ proof_ = gives_no_refusal m (Find k name) answer_ proof_
-no_refusal m (Unbind k name) chosen_ answer_ proof_ = gives_no_refusal m (Unbind k name) answer_ proof_
-no_refusal m (Names k) chosen_ answer_ proof_ = gives_no_refusal m (Names k) answer_ proof_
-no_refusal m (Full k mode) chosen_ answer_ proof_ = gives_no_refusal m (Full k mode) answer_ proof_
-no_refusal m (Stat k) chosen_ answer_ proof_ = gives_no_refusal m (Stat k) answer_ proof_
-no_refusal m (Notes k) chosen_ answer_ proof_ = gives_no_refusal m (Notes k) answer_ proof_
-no_refusal m (Faults k) chosen_ answer_ proof_ = gives_no_refusal m (Faults k) answer_ proof_
-no_refusal m HandOver chosen_ answer_ proof_ = gives_no_refusal m HandOver answer_ proof_
-no_refusal m TakeUp chosen_ answer_ proof_ = gives_no_refusal m TakeUp answer_ proof_
-no_refusal m Begin chosen_ answer_ proof_ = gives_no_refusal m Begin answer_ proof_
 no_refusal m Collect chosen_ answer_ proof_ = ap is_refusal proof_
-no_refusal m Abandon chosen_ answer_ proof_ = gives_no_refusal m Abandon answer_ proof_
-no_refusal m (Array k n) chosen_ answer_ proof_ = gives_no_refusal m (Array k n) answer_ proof_
+no_refusal m asked chosen_ answer_ proof_ = gives_no_refusal m asked answer_ proof_
 
 -- ---- A legal refusal is listed
 
@@ -232,48 +138,14 @@ found_in p by (x ∷ xs) e =
     ] e
 
 full_listed : (m : Machine) (ask : Ask) → IsTrue (not (has_room m (cells_needed ask))) → Contains (listed ask) HeapFull
-full_listed m (Join k) proof_ = absurd (no_need m proof_)
-full_listed m (Leave k) proof_ = absurd (no_need m proof_)
 full_listed m (New k layout) proof_ = (3, lit< tt, refl)
-full_listed m (Put k h f v) proof_ = absurd (no_need m proof_)
-full_listed m (Get k h f) proof_ = absurd (no_need m proof_)
-full_listed m (SetInt k h f n) proof_ = absurd (no_need m proof_)
-full_listed m (Int k h f) proof_ = absurd (no_need m proof_)
-full_listed m (Dup k h) proof_ = absurd (no_need m proof_)
-full_listed m (Drop k h) proof_ = absurd (no_need m proof_)
-full_listed m (Same k a b) proof_ = absurd (no_need m proof_)
 full_listed m (MakeRef k kind h q) proof_ = (6, lit< tt, refl)
-full_listed m (Deref k r) proof_ = absurd (no_need m proof_)
-full_listed m (Refers k r h) proof_ = absurd (no_need m proof_)
-full_listed m (Clear k r) proof_ = absurd (no_need m proof_)
-full_listed m (Enqueue k r) proof_ = absurd (no_need m proof_)
-full_listed m (Enqueued k r) proof_ = absurd (no_need m proof_)
 full_listed m (MakeQueue k) proof_ = (3, lit< tt, refl)
-full_listed m (Poll k q) proof_ = absurd (no_need m proof_)
-full_listed m (Remove k q) proof_ = absurd (no_need m proof_)
 full_listed m (MakeCleaner k) proof_ = (3, lit< tt, refl)
 full_listed m (Register k d h note) proof_ = (7, lit< tt, refl)
-full_listed m (Clean k d) proof_ = absurd (no_need m proof_)
 full_listed m (Prepare k) proof_ = (5, lit< tt, refl)
-full_listed m (Opened k outcome) proof_ = absurd (no_need m proof_)
-full_listed m (CheckOut k h) proof_ = absurd (no_need m proof_)
-full_listed m (CheckIn k outcome) proof_ = absurd (no_need m proof_)
-full_listed m (Close k h) proof_ = absurd (no_need m proof_)
-full_listed m (Finish by action outcome) proof_ = absurd (no_need m proof_)
-full_listed m (Bind k name h) proof_ = absurd (no_need m proof_)
-full_listed m (Find k name) proof_ = absurd (no_need m proof_)
-full_listed m (Unbind k name) proof_ = absurd (no_need m proof_)
-full_listed m (Names k) proof_ = absurd (no_need m proof_)
-full_listed m (Full k mode) proof_ = absurd (no_need m proof_)
-full_listed m (Stat k) proof_ = absurd (no_need m proof_)
-full_listed m (Notes k) proof_ = absurd (no_need m proof_)
-full_listed m (Faults k) proof_ = absurd (no_need m proof_)
-full_listed m HandOver proof_ = absurd (no_need m proof_)
-full_listed m TakeUp proof_ = absurd (no_need m proof_)
-full_listed m Begin proof_ = absurd (no_need m proof_)
-full_listed m Collect proof_ = absurd (no_need m proof_)
-full_listed m Abandon proof_ = absurd (no_need m proof_)
 full_listed m (Array k n) proof_ = (3, lit< tt, refl)
+full_listed m asked proof_ = absurd (no_need m proof_)
 
 same_refusal : (a : Answer) (b by : Refusal) → a ≡ Refused b → a ≡ Refused by → b ≡ by
 same_refusal a b by e f = let g : Refused b ≡ Refused by = sym e ∙ f in cc g
@@ -308,47 +180,7 @@ refusal_changes_nothing m e by up_to_date (out_of_memory r) f d = unchanged m e 
 -- a full heap refuses by no other case
 not_listed_full : (m : Machine) (ask : Ask) → applies m ask HeapFull ≡ false
 not_listed_full m (Join k) = refl
-not_listed_full m (Leave k) = refl
-not_listed_full m (New k layout) = refl
-not_listed_full m (Put k h f v) = refl
-not_listed_full m (Get k h f) = refl
-not_listed_full m (SetInt k h f n) = refl
-not_listed_full m (Int k h f) = refl
-not_listed_full m (Dup k h) = refl
-not_listed_full m (Drop k h) = refl
-not_listed_full m (Same k a b) = refl
-not_listed_full m (MakeRef k kind h q) = refl
-not_listed_full m (Deref k r) = refl
-not_listed_full m (Refers k r h) = refl
-not_listed_full m (Clear k r) = refl
-not_listed_full m (Enqueue k r) = refl
-not_listed_full m (Enqueued k r) = refl
-not_listed_full m (MakeQueue k) = refl
-not_listed_full m (Poll k q) = refl
-not_listed_full m (Remove k q) = refl
-not_listed_full m (MakeCleaner k) = refl
-not_listed_full m (Register k d h note) = refl
-not_listed_full m (Clean k d) = refl
-not_listed_full m (Prepare k) = refl
-not_listed_full m (Opened k outcome) = refl
-not_listed_full m (CheckOut k h) = refl
-not_listed_full m (CheckIn k outcome) = refl
-not_listed_full m (Close k h) = refl
-not_listed_full m (Finish by action outcome) = refl
-not_listed_full m (Bind k name h) = refl
-not_listed_full m (Find k name) = refl
-not_listed_full m (Unbind k name) = refl
-not_listed_full m (Names k) = refl
-not_listed_full m (Full k mode) = refl
-not_listed_full m (Stat k) = refl
-not_listed_full m (Notes k) = refl
-not_listed_full m (Faults k) = refl
-not_listed_full m HandOver = refl
-not_listed_full m TakeUp = refl
-not_listed_full m Begin = refl
-not_listed_full m Collect = refl
-not_listed_full m Abandon = refl
-not_listed_full m (Array k n) = refl
+not_listed_full m asked = refl
 
 holds_found : (p : Refusal → Bool) (by : Refusal) (xs : List Refusal) → find p xs ≡ Some by → p by ≡ true
 holds_found p by [] e = no_some by e

@@ -10,7 +10,6 @@ use crate::room::room_for;
 use jlr_machine::ask::{Ask, FullMode};
 use jlr_machine::entry::{Chosen, Collected};
 use jlr_machine::machine::Machine;
-use jlr_plain_asks::operands::cells_of;
 use jlr_plain_collections::legal::{background_tested, clearing_tested, full_tested};
 use jlr_types::Mutator;
 use std::alloc::{AllocError, Global};
@@ -69,7 +68,7 @@ fn may_do(alloc: Global, machine: &Machine, ask: &Ask, c: &Collected) -> Result<
     match ask {
         Ask::Full { mutator, mode } => full_allowed(alloc, machine, *mutator, *mode, c),
         Ask::Collect => background_allowed(alloc, machine, c),
-        _ => clears_for_room(alloc, machine, cells_of(ask), c),
+        _ => clears_for_room(alloc, machine, ask.cells() as usize, c),
     }
 }
 
@@ -79,7 +78,7 @@ fn may_do_without(machine: &Machine, ask: &Ask) -> bool
     match ask {
         Ask::Full { .. } => false,
         Ask::Collect => true,
-        _ => room_for(machine, cells_of(ask)),
+        _ => room_for(machine, ask.cells() as usize),
     }
 }
 

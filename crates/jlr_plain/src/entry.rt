@@ -23,7 +23,6 @@ use jlr_machine::machine::Machine;
 use jlr_plain_asks::answers::answers::{is_refused_by, is_truth};
 use jlr_plain_asks::answers::replies::is_reply;
 use jlr_plain_asks::lookups::resource_with;
-use jlr_plain_asks::operands::{cells_of, ends_call};
 use jlr_plain_asks::refusals::refusal_plain;
 use jlr_plain_collections::left::collected_plain;
 use jlr_types::{Refusal, Rid, Slot};
@@ -83,7 +82,7 @@ fn is_out_of_memory_plain(entry: &Entry) -> bool
     ensures { result ≡ (not (is_end entry.now.ask) && same_answer entry.now.answer (Refused NoMemory)
         && chooses_nothing entry.now.choice) }
 {
-    !ends_call(&entry.ask)
+    !entry.ask.is_end()
         && is_refused_by(&entry.answer, Refusal::NoMemory)
         && chooses_none(&entry.choice)
 }
@@ -111,7 +110,7 @@ pub(crate) fn fits_in(machine: &Machine, entry: &Entry) -> bool
         && is_answer machine.now entry.now.ask entry.now.choice.collected entry.now.answer) }
 {
     let choice = &entry.choice;
-    let cells = cells_of(&entry.ask);
+    let cells = entry.ask.cells() as usize;
     fresh_slots(&machine.objects, cells, choice.fresh().as_slice())
         && answered(machine, &entry.ask, choice, &entry.answer)
 }
@@ -149,7 +148,7 @@ fn too_few_left(
     requires within { IsWithinHeap machine.now.objects (roots machine.now) }
     ensures { IfOk result (λ b. b ≡ leaves_too_few machine.now ask.now c.now) }
 {
-    let needed = cells_of(ask);
+    let needed = ask.cells() as usize;
     if !clears_for_room(alloc, machine, needed, c)? {
         return Ok(false);
     }

@@ -5,7 +5,6 @@
 pub mod answers;
 pub mod changes;
 pub mod given;
-pub mod listing;
 pub mod lookups;
 pub mod operands;
 pub mod refusals;

@@ -1,7 +1,7 @@
 //! What an ask names: its mutator, its handles, its field and its name.
-ghost use Rattle.std.specs.Prelude.{◌≡◌, ◌≤◌, ◌==◌, cond, option_map, option_copied, None, Some, true, false};
+ghost use Rattle.std.specs.Prelude.{◌≡◌, ◌==◌, cond, option_map, option_copied, None, Some, true, false};
 ghost use Rattle.jlr_types.specs.declared.FieldKind.TheVariants.{Int, Ref};
-ghost use Rattle.jlr_machine.specs.Refusals.{asker, is_end, operands, field_asked, name_asked, cells_needed};
+ghost use Rattle.jlr_machine.specs.Refusals.{asker, operands, field_asked, name_asked};
 ghost use Rattle.jlr_plain_asks.specs.Fits.{operands_in};
 
 use jlr_machine::ask::Ask;
@@ -106,19 +106,6 @@ fn taker(by: u8) -> Option<Mutator>
         return None;
     }
     Some(Mutator::new(by))
-}
-
-/// Whether it ends a call.
-pub fn ends_call(ask: &Ask) -> bool
-    ensures { result ≡ is_end ask.now }
-{
-    match ask {
-        Ask::Leave { .. } => true,
-        Ask::Opened { .. } => true,
-        Ask::CheckIn { .. } => true,
-        Ask::Finish { .. } => true,
-        _ => false,
-    }
 }
 
 fn object(handle: Handle, fit: Fit) -> Named
@@ -243,22 +230,5 @@ pub fn name_of(ask: &Ask) -> Option<&Name>
         Ask::Find { name, .. } => Some(name),
         Ask::Unbind { name, .. } => Some(name),
         _ => None,
-    }
-}
-
-/// How many cells the ask's new objects take.
-pub fn cells_of(ask: &Ask) -> usize
-    ensures cells { result ≡ cells_needed ask.now }
-    ensures within { result ≤ 2 }
-{
-    match ask {
-        Ask::New { .. } => 1,
-        Ask::Array { .. } => 1,
-        Ask::MakeRef { .. } => 1,
-        Ask::MakeQueue { .. } => 1,
-        Ask::MakeCleaner { .. } => 1,
-        Ask::Register { .. } => 1,
-        Ask::Prepare { .. } => 2,
-        _ => 0,
     }
 }

@@ -15,14 +15,12 @@ ghost use Rattle.jlr_machine.specs.Refusals.{operands, needs_handle, applies, re
 ghost use Rattle.jlr_plain_asks.specs.Fits.{test_of, operand_of, operands_in};
 
 use crate::given::given_by;
-use crate::listing::listed_for;
 use crate::lookups::{
     bound_slot, cleanable_in, guarded_cleanable, handle_is_free, named_field, named_guard,
     named_object, named_slot, resource_with, running_job, session_of,
 };
 use crate::operands::{
-    CLEANER, FieldNamed, Fit, Named, Operands, asker_of, cells_of, field_of_ask, name_of,
-    operands_of,
+    CLEANER, FieldNamed, Fit, Named, Operands, asker_of, field_of_ask, name_of, operands_of,
 };
 use jlr_machine::ask::Ask;
 use jlr_machine::machine::{Call, Job, Machine, ResourceState};
@@ -428,7 +426,7 @@ fn lacks_call(machine: &Machine, ask: &Ask) -> bool
 fn wants_handle(machine: &Machine, ask: &Ask) -> bool
     ensures { result ≡ needs_handle machine.now ask.now }
 {
-    cells_of(ask) > 0 || given_by(machine, ask).is_some()
+    ask.cells() > 0 || given_by(machine, ask).is_some()
 }
 
 fn no_handle_free(machine: &Machine, ask: &Ask) -> bool
@@ -503,5 +501,5 @@ fn first_holding(machine: &Machine, ask: &Ask, refusals: &[Refusal]) -> Option<R
 pub fn refusal_plain(machine: &Machine, ask: &Ask) -> Option<Refusal>
     ensures { result ≡ refusal machine.now ask.now }
 {
-    first_holding(machine, ask, listed_for(ask))
+    first_holding(machine, ask, ask.kind().refusals())
 }

@@ -128,6 +128,7 @@ impl Listener {
                 poll,
                 events,
                 control: None,
+                spare: None,
                 is_asked: false,
                 ready: false,
                 askers: Vec::new(alloc),
@@ -217,6 +218,8 @@ pub struct LineWatcher {
     poll: Poll,
     events: Events,
     control: Option<UnixListener>,
+    // It is open so that there is a descriptor for who asks the server to end.
+    spare: Option<UnixStream>,
     // Whether the server was asked to end.
     is_asked: bool,
     // Whether somebody may wait at the socket of control.
@@ -243,6 +246,10 @@ impl LineWatcher {
             return Err(error);
         }
         self.control = Some(control);
+        self.spare = match UnixStream::pair(rt) {
+            Ok((spare, _)) => Some(spare),
+            Err(_) => None,
+        };
         Ok(file)
     }
 
@@ -292,15 +299,49 @@ impl LineWatcher {
         }
     }
 
+    /// Who waits first at the socket of control. Where descriptors ran out the spare one is given up for that.
+    fn admit(&mut self) -> io::Result<UnixStream>
+        ensures { self.new.is_asked ≡ self.old.is_asked }
+    {
+        let Some(control) = &self.control else {
+            return Err(io::Error::from(io::ErrorKind::WouldBlock));
+        };
+        match control.accept() {
+            Ok((asker, _)) => Ok(asker),
+            Err(error) if error.kind() == io::ErrorKind::WouldBlock => Err(error),
+            Err(error) => {
+                let Some(spare) = self.spare.take() else {
+                    return Err(error);
+                };
+                drop(spare);
+                let (asker, _) = control.accept()?;
+                Ok(asker)
+            }
+        }
+    }
+
+    /// Lets go who asked for nothing. Its descriptor is the spare one, where that was given up.
+    fn let_go(&mut self, asker: UnixStream)
+        ensures { self.new.is_asked ≡ self.old.is_asked }
+    {
+        let _ = asker.shutdown(Shutdown::Both);
+        if self.spare.is_none() {
+            self.spare = Some(asker);
+        }
+    }
+
     /// What the next one who waits at the socket of control asks for: the first that the server ends, any other that it
-    /// ends at once. Where it cannot be let in, since descriptors ran out, it is taken to ask for the end.
+    /// ends at once. Where it cannot be let in, since there is no descriptor for it, it is taken to ask for the end.
     fn order(&mut self) -> Option<News>
         ensures told { MatchOption result (Unit {0}) (λ news. TellsAsked news self.new.is_asked) }
         ensures stays { self.old.is_asked ≡ true → self.new.is_asked ≡ true }
     {
-        let asker = match self.control.as_ref()?.accept() {
-            Ok((asker, _)) if asks(&asker) => Some(asker),
-            Ok(_) => return None,
+        let asker = match self.admit() {
+            Ok(asker) if asks(&asker) => Some(asker),
+            Ok(asker) => {
+                self.let_go(asker);
+                return None;
+            }
             Err(error) => {
                 self.ready = false;
                 if self.is_asked || error.kind() == io::ErrorKind::WouldBlock {

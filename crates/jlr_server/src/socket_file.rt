@@ -34,7 +34,7 @@ pub fn listen(
     }
     remove_dead(rt, path)?;
     let listener = match mode {
-        None => UnixListener::bind(rt, path)?,
+        None => bind(rt, path)?,
         Some(mode) => bind_with(rt, alloc, path, mode)?,
     };
     match Inode::at(rt, path) {
@@ -46,11 +46,20 @@ pub fn listen(
     }
 }
 
+/// A socket that listens at a path. Where it cannot listen no file of it is left.
+fn bind(rt: &HostRuntime, path: &str) -> Result<UnixListener> {
+    let bound = UnixListener::bind(rt, path);
+    if bound.is_err() {
+        let _ = remove_dead(rt, path);
+    }
+    bound
+}
+
 /// A socket that listens at a path, whose file gets its rights under a name of its own, and then the path as well.
 fn bind_with(rt: &HostRuntime, alloc: Global, path: &str, mode: u32) -> Result<UnixListener> {
     let fresh = format!(in alloc; "{path}.new")?;
     remove_dead(rt, fresh.as_str())?;
-    let listener = UnixListener::bind(rt, fresh.as_str())?;
+    let listener = bind(rt, fresh.as_str())?;
     let placed = place(rt, fresh.as_str(), path, mode);
     let _ = fs::remove_file(rt, fresh.as_str());
     placed?;

@@ -17,10 +17,9 @@ use Rattle.jlr_machine.specs.declared.object.RefState.TheVariants.{Fresh}
 use Rattle.jlr_machine.specs.declared.machine.Machine.{Machine}
 use Rattle.jlr_machine.specs.declared.machine.Session.{Session}
 use Rattle.jlr_machine.specs.declared.ask.Ask.{Ask}
-use Rattle.jlr_machine.specs.declared.ask.Ask.TheVariants.{Join, Leave, New, Put, Get, SetInt, Int, Dup, Drop, Same, MakeRef, Deref, Refers}
-use Rattle.jlr_machine.specs.declared.ask.Ask.TheVariants.{Clear, Enqueue, Enqueued, MakeCleaner, MakeQueue, Poll, Register, Clean, Prepare}
-use Rattle.jlr_machine.specs.declared.ask.Ask.TheVariants.{Opened, CheckOut, CheckIn, Close, Finish, Remove, Bind, Find, Unbind, Names}
-use Rattle.jlr_machine.specs.declared.ask.Ask.TheVariants.{HandOver, TakeUp, Full, Stat, Notes, Faults, Begin, Abandon, Array}
+use Rattle.jlr_machine.specs.declared.ask.Ask.TheVariants.{New, MakeRef}
+use Rattle.jlr_machine.specs.declared.ask.Ask.TheVariants.{MakeCleaner, MakeQueue, Register, Prepare}
+use Rattle.jlr_machine.specs.declared.ask.Ask.TheVariants.{Full, Collect, Array}
 use Rattle.jlr_machine.specs.declared.ask.FullMode.{FullMode}
 use Rattle.jlr_machine.specs.declared.ask.FullMode.TheVariants.{Policy, ClearAll}
 use Rattle.jlr_machine.specs.declared.ask.Answer.{Answer}
@@ -97,79 +96,31 @@ meets_plainly m ask a n e collection none answers r l =
       applied = l ∙ sym (carried_on m ask a [] r);
     }
 
--- the asks of this stage that do so
+-- the asks that do so
 abbrev pub IsPlain : Ask → Type 0
-IsPlain (Join k) = Unit {0}
-IsPlain (Leave k) = Unit {0}
-IsPlain (Put k h f v) = Unit {0}
-IsPlain (Get k h f) = Unit {0}
-IsPlain (SetInt k h f n) = Unit {0}
-IsPlain (Int k h f) = Unit {0}
-IsPlain (Dup k h) = Unit {0}
-IsPlain (Drop k h) = Unit {0}
-IsPlain (Same k a b) = Unit {0}
-IsPlain (Deref k r) = Unit {0}
-IsPlain (Refers k r h) = Unit {0}
-IsPlain (Clear k r) = Unit {0}
-IsPlain (Enqueue k r) = Unit {0}
-IsPlain (Enqueued k r) = Unit {0}
-IsPlain (Poll k q) = Unit {0}
-IsPlain (Stat k) = Unit {0}
-IsPlain HandOver = Unit {0}
-IsPlain Begin = Unit {0}
-IsPlain Abandon = Unit {0}
-IsPlain (Clean k d) = Unit {0}
-IsPlain (Opened k outcome) = Unit {0}
-IsPlain (Finish by action outcome) = Unit {0}
-IsPlain (Notes k) = Unit {0}
-IsPlain (Faults k) = Unit {0}
-IsPlain TakeUp = Unit {0}
-IsPlain (CheckOut k h) = Unit {0}
-IsPlain (CheckIn k outcome) = Unit {0}
-IsPlain (Close k h) = Unit {0}
-IsPlain (Remove k q) = Unit {0}
-IsPlain (Bind k name h) = Unit {0}
-IsPlain (Find k name) = Unit {0}
-IsPlain (Unbind k name) = Unit {0}
-IsPlain (Names k) = Unit {0}
-IsPlain _ = ⊥
+IsPlain (New k layout) = ⊥
+IsPlain (Array k n) = ⊥
+IsPlain (MakeRef k kind h q) = ⊥
+IsPlain (MakeQueue k) = ⊥
+IsPlain (MakeCleaner k) = ⊥
+IsPlain (Register k d h note) = ⊥
+IsPlain (Prepare k) = ⊥
+IsPlain (Full k mode) = ⊥
+IsPlain Collect = ⊥
+IsPlain _ = Unit {0}
 
 plainly : (m n : Machine) (ask : Ask) (a : Answer) → IsPlain ask → refusal m ask ≡ None → reply m ask ≡ Some a → n ≡ after m ask a []
     → Meets m ask a no_choice n
-plainly m n (Join k) a p e r l = meets_plainly m (Join k) a n e (room_for_none m) refl r r l
-plainly m n (Leave k) a p e r l = meets_plainly m (Leave k) a n e (room_for_none m) refl r r l
-plainly m n (Put k h f v) a p e r l = meets_plainly m (Put k h f v) a n e (room_for_none m) refl r r l
-plainly m n (Get k h f) a p e r l = meets_plainly m (Get k h f) a n e (room_for_none m) refl r r l
-plainly m n (SetInt k h f x) a p e r l = meets_plainly m (SetInt k h f x) a n e (room_for_none m) refl r r l
-plainly m n (Int k h f) a p e r l = meets_plainly m (Int k h f) a n e (room_for_none m) refl r r l
-plainly m n (Dup k h) a p e r l = meets_plainly m (Dup k h) a n e (room_for_none m) refl r r l
-plainly m n (Drop k h) a p e r l = meets_plainly m (Drop k h) a n e (room_for_none m) refl r r l
-plainly m n (Same k x y) a p e r l = meets_plainly m (Same k x y) a n e (room_for_none m) refl r r l
-plainly m n (Deref k h) a p e r l = meets_plainly m (Deref k h) a n e (room_for_none m) refl r r l
-plainly m n (Refers k x h) a p e r l = meets_plainly m (Refers k x h) a n e (room_for_none m) refl r r l
-plainly m n (Clear k h) a p e r l = meets_plainly m (Clear k h) a n e (room_for_none m) refl r r l
-plainly m n (Enqueue k h) a p e r l = meets_plainly m (Enqueue k h) a n e (room_for_none m) refl r r l
-plainly m n (Enqueued k h) a p e r l = meets_plainly m (Enqueued k h) a n e (room_for_none m) refl r r l
-plainly m n (Poll k h) a p e r l = meets_plainly m (Poll k h) a n e (room_for_none m) refl r r l
-plainly m n (Stat k) a p e r l = meets_plainly m (Stat k) a n e (room_for_none m) refl r r l
-plainly m n Begin a p e r l = meets_plainly m Begin a n e (room_for_none m) refl r r l
-plainly m n Abandon a p e r l = meets_plainly m Abandon a n e (room_for_none m) refl r r l
-plainly m n HandOver a p e r l = meets_plainly m HandOver a n e (room_for_none m) refl r r l
-plainly m n (Clean k d) a p e r l = meets_plainly m (Clean k d) a n e (room_for_none m) refl r r l
-plainly m n (Opened k outcome) a p e r l = meets_plainly m (Opened k outcome) a n e (room_for_none m) refl r r l
-plainly m n (Finish by action outcome) a p e r l = meets_plainly m (Finish by action outcome) a n e (room_for_none m) refl r r l
-plainly m n (Notes k) a p e r l = meets_plainly m (Notes k) a n e (room_for_none m) refl r r l
-plainly m n (Faults k) a p e r l = meets_plainly m (Faults k) a n e (room_for_none m) refl r r l
-plainly m n TakeUp a p e r l = meets_plainly m TakeUp a n e (room_for_none m) refl r r l
-plainly m n (CheckOut k h) a p e r l = meets_plainly m (CheckOut k h) a n e (room_for_none m) refl r r l
-plainly m n (CheckIn k outcome) a p e r l = meets_plainly m (CheckIn k outcome) a n e (room_for_none m) refl r r l
-plainly m n (Close k h) a p e r l = meets_plainly m (Close k h) a n e (room_for_none m) refl r r l
-plainly m n (Remove k q) a p e r l = meets_plainly m (Remove k q) a n e (room_for_none m) refl r r l
-plainly m n (Bind k name h) a p e r l = meets_plainly m (Bind k name h) a n e (room_for_none m) refl r r l
-plainly m n (Find k name) a p e r l = meets_plainly m (Find k name) a n e (room_for_none m) refl r r l
-plainly m n (Unbind k name) a p e r l = meets_plainly m (Unbind k name) a n e (room_for_none m) refl r r l
-plainly m n (Names k) a p e r l = meets_plainly m (Names k) a n e (room_for_none m) refl r r l
-plainly m n _ a p e r l = absurd p
+plainly m n (New k layout) a p e r l = absurd p
+plainly m n (Array k size) a p e r l = absurd p
+plainly m n (MakeRef k kind h q) a p e r l = absurd p
+plainly m n (MakeQueue k) a p e r l = absurd p
+plainly m n (MakeCleaner k) a p e r l = absurd p
+plainly m n (Register k d h note) a p e r l = absurd p
+plainly m n (Prepare k) a p e r l = absurd p
+plainly m n (Full k mode) a p e r l = absurd p
+plainly m n Collect a p e r l = absurd p
+plainly m n asked a p e r l = meets_plainly m asked a n e (room_for_none m) refl r r l
 
 pub meets_plain : (m n : Machine) (ask : Ask) (a : Answer) → IsPlain ask → refusal m ask ≡ None → reply m ask ≡ Some a
     → n ≡ after m ask a [] → Meets m ask a no_choice n

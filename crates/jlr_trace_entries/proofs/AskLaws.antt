@@ -35,18 +35,7 @@ use Rattle.jlr_trace_fields.proofs.TableLaws.{ref_kind, fault}
 use Rattle.jlr_trace_fields.proofs.Records.{name}
 use Rattle.jlr_machine.specs.declared.kind.AskKind.{AskKind}
 use Rattle.jlr_machine.specs.AskKinds.{ask_kinds}
-use Rattle.jlr_machine.specs.declared.kind.AskKind.TheVariants.{Join as ToJoin, Leave as ToLeave, New as ToNew, Put as ToPut, Get as ToGet}
-use Rattle.jlr_machine.specs.declared.kind.AskKind.TheVariants.{SetInt as ToSetInt, Int as ToInt, Dup as ToDup, Drop as ToDrop}
-use Rattle.jlr_machine.specs.declared.kind.AskKind.TheVariants.{Same as ToSame, MakeRef as ToMakeRef, Deref as ToDeref, Refers as ToRefers}
-use Rattle.jlr_machine.specs.declared.kind.AskKind.TheVariants.{Clear as ToClear, Enqueue as ToEnqueue, Enqueued as ToEnqueued}
-use Rattle.jlr_machine.specs.declared.kind.AskKind.TheVariants.{MakeQueue as ToMakeQueue, Poll as ToPoll, Remove as ToRemove}
-use Rattle.jlr_machine.specs.declared.kind.AskKind.TheVariants.{MakeCleaner as ToMakeCleaner, Register as ToRegister, Clean as ToClean}
-use Rattle.jlr_machine.specs.declared.kind.AskKind.TheVariants.{Prepare as ToPrepare, Opened as ToOpened, CheckOut as ToCheckOut}
-use Rattle.jlr_machine.specs.declared.kind.AskKind.TheVariants.{CheckIn as ToCheckIn, Close as ToClose, Finish as ToFinish, Bind as ToBind}
-use Rattle.jlr_machine.specs.declared.kind.AskKind.TheVariants.{Find as ToFind, Unbind as ToUnbind, Names as ToNames, Full as ToFull}
-use Rattle.jlr_machine.specs.declared.kind.AskKind.TheVariants.{Stat as ToStat, Notes as ToNotes, Faults as ToFaults}
-use Rattle.jlr_machine.specs.declared.kind.AskKind.TheVariants.{HandOver as ToHandOver, TakeUp as ToTakeUp, Begin as ToBegin}
-use Rattle.jlr_machine.specs.declared.kind.AskKind.TheVariants.{Collect as ToCollect, Abandon as ToAbandon, Array as ToArray}
+use Rattle.jlr_machine.specs.declared.kind.AskKind.TheVariants as to
 use Rattle.jlr_trace_entries.specs.Asks.{outcomes_by_number, outcome_number, modes, mode_number, spelled_kind, spelled_layout, kind_read}
 use Rattle.jlr_trace_entries.specs.Asks.{layout_read}
 use Rattle.jlr_trace_entries.specs.Asks.{spelled_call_outcome, CallOutcomeFits, call_outcome_behind, call_outcome_read, spelled_field}
@@ -183,48 +172,48 @@ element_count = number_within w16 (2 ^ 16) 1 4096 (omega arith) two_bytes
 -- ---- Asks
 
 abbrev kind_number : AskKind → ℕ
-kind_number ToJoin = 0
-kind_number ToLeave = 1
-kind_number ToNew = 2
-kind_number ToPut = 3
-kind_number ToGet = 4
-kind_number ToSetInt = 5
-kind_number ToInt = 6
-kind_number ToDup = 7
-kind_number ToDrop = 8
-kind_number ToSame = 9
-kind_number ToMakeRef = 10
-kind_number ToDeref = 11
-kind_number ToRefers = 12
-kind_number ToClear = 13
-kind_number ToEnqueue = 14
-kind_number ToEnqueued = 15
-kind_number ToMakeQueue = 16
-kind_number ToPoll = 17
-kind_number ToRemove = 18
-kind_number ToMakeCleaner = 19
-kind_number ToRegister = 20
-kind_number ToClean = 21
-kind_number ToPrepare = 22
-kind_number ToOpened = 23
-kind_number ToCheckOut = 24
-kind_number ToCheckIn = 25
-kind_number ToClose = 26
-kind_number ToFinish = 27
-kind_number ToBind = 28
-kind_number ToFind = 29
-kind_number ToUnbind = 30
-kind_number ToNames = 31
-kind_number ToFull = 32
-kind_number ToStat = 33
-kind_number ToNotes = 34
-kind_number ToFaults = 35
-kind_number ToHandOver = 36
-kind_number ToTakeUp = 37
-kind_number ToBegin = 38
-kind_number ToCollect = 39
-kind_number ToAbandon = 40
-kind_number ToArray = 41
+kind_number to.Join = 0
+kind_number to.Leave = 1
+kind_number to.New = 2
+kind_number to.Put = 3
+kind_number to.Get = 4
+kind_number to.SetInt = 5
+kind_number to.Int = 6
+kind_number to.Dup = 7
+kind_number to.Drop = 8
+kind_number to.Same = 9
+kind_number to.MakeRef = 10
+kind_number to.Deref = 11
+kind_number to.Refers = 12
+kind_number to.Clear = 13
+kind_number to.Enqueue = 14
+kind_number to.Enqueued = 15
+kind_number to.MakeQueue = 16
+kind_number to.Poll = 17
+kind_number to.Remove = 18
+kind_number to.MakeCleaner = 19
+kind_number to.Register = 20
+kind_number to.Clean = 21
+kind_number to.Prepare = 22
+kind_number to.Opened = 23
+kind_number to.CheckOut = 24
+kind_number to.CheckIn = 25
+kind_number to.Close = 26
+kind_number to.Finish = 27
+kind_number to.Bind = 28
+kind_number to.Find = 29
+kind_number to.Unbind = 30
+kind_number to.Names = 31
+kind_number to.Full = 32
+kind_number to.Stat = 33
+kind_number to.Notes = 34
+kind_number to.Faults = 35
+kind_number to.HandOver = 36
+kind_number to.TakeUp = 37
+kind_number to.Begin = 38
+kind_number to.Collect = 39
+kind_number to.Abandon = 40
+kind_number to.Array = 41
 
 array_takes : (version : Version) → TakesBehind (41 ∷ []) (array_read version) (spelled_ask version) (AskFits version)
 array_takes One = λ bs x rest fits e. absurd cc
@@ -232,64 +221,64 @@ array_takes Two = two_takes byte element_count (41 ∷ []) Array (spelled_ask Tw
 
 body_takes : (version : Version) (kind : AskKind) → TakesBehind (kind_number kind ∷ []) (ask_body version kind) (spelled_ask version)
     (AskFits version)
-body_takes version ToJoin = one_takes byte (0 ∷ []) Join (spelled_ask version) (AskFits version) (λ a. refl) (λ a p. p)
-body_takes version ToLeave = one_takes byte (1 ∷ []) Leave (spelled_ask version) (AskFits version) (λ a. refl) (λ a p. p)
-body_takes version ToNew = two_takes byte layout (2 ∷ []) New (spelled_ask version) (AskFits version) (λ a b. refl) (λ a b p q. (p, q))
-body_takes version ToPut = four_takes byte byte (field version) byte (3 ∷ []) Put (spelled_ask version) (AskFits version) (λ a b c d. refl)
+body_takes version to.Join = one_takes byte (0 ∷ []) Join (spelled_ask version) (AskFits version) (λ a. refl) (λ a p. p)
+body_takes version to.Leave = one_takes byte (1 ∷ []) Leave (spelled_ask version) (AskFits version) (λ a. refl) (λ a p. p)
+body_takes version to.New = two_takes byte layout (2 ∷ []) New (spelled_ask version) (AskFits version) (λ a b. refl) (λ a b p q. (p, q))
+body_takes version to.Put = four_takes byte byte (field version) byte (3 ∷ []) Put (spelled_ask version) (AskFits version) (λ a b c d. refl)
     (λ a b c d p q r s. (p, q, r, s))
-body_takes version ToGet =
+body_takes version to.Get =
     three_takes byte byte (field version) (4 ∷ []) Get (spelled_ask version) (AskFits version) (λ a b c. refl) (λ a b c p q r. (p, q, r))
-body_takes version ToSetInt = four_takes byte byte (field version) signed (5 ∷ []) SetInt (spelled_ask version) (AskFits version)
+body_takes version to.SetInt = four_takes byte byte (field version) signed (5 ∷ []) SetInt (spelled_ask version) (AskFits version)
     (λ a b c d. refl) (λ a b c d p q r s. (p, q, r, s))
-body_takes version ToInt =
+body_takes version to.Int =
     three_takes byte byte (field version) (6 ∷ []) Int (spelled_ask version) (AskFits version) (λ a b c. refl) (λ a b c p q r. (p, q, r))
-body_takes version ToDup = two_takes byte byte (7 ∷ []) Dup (spelled_ask version) (AskFits version) (λ a b. refl) (λ a b p q. (p, q))
-body_takes version ToDrop = two_takes byte byte (8 ∷ []) Drop (spelled_ask version) (AskFits version) (λ a b. refl) (λ a b p q. (p, q))
-body_takes version ToSame =
+body_takes version to.Dup = two_takes byte byte (7 ∷ []) Dup (spelled_ask version) (AskFits version) (λ a b. refl) (λ a b p q. (p, q))
+body_takes version to.Drop = two_takes byte byte (8 ∷ []) Drop (spelled_ask version) (AskFits version) (λ a b. refl) (λ a b p q. (p, q))
+body_takes version to.Same =
     three_takes byte byte byte (9 ∷ []) Same (spelled_ask version) (AskFits version) (λ a b c. refl) (λ a b c p q r. (p, q, r))
-body_takes version ToMakeRef = four_takes byte ref_kind byte byte (10 ∷ []) MakeRef (spelled_ask version) (AskFits version)
+body_takes version to.MakeRef = four_takes byte ref_kind byte byte (10 ∷ []) MakeRef (spelled_ask version) (AskFits version)
     (λ a b c d. refl) (λ a b c d p q r s. (p, r, s))
-body_takes version ToDeref = two_takes byte byte (11 ∷ []) Deref (spelled_ask version) (AskFits version) (λ a b. refl) (λ a b p q. (p, q))
-body_takes version ToRefers =
+body_takes version to.Deref = two_takes byte byte (11 ∷ []) Deref (spelled_ask version) (AskFits version) (λ a b. refl) (λ a b p q. (p, q))
+body_takes version to.Refers =
     three_takes byte byte byte (12 ∷ []) Refers (spelled_ask version) (AskFits version) (λ a b c. refl) (λ a b c p q r. (p, q, r))
-body_takes version ToClear = two_takes byte byte (13 ∷ []) Clear (spelled_ask version) (AskFits version) (λ a b. refl) (λ a b p q. (p, q))
-body_takes version ToEnqueue =
+body_takes version to.Clear = two_takes byte byte (13 ∷ []) Clear (spelled_ask version) (AskFits version) (λ a b. refl) (λ a b p q. (p, q))
+body_takes version to.Enqueue =
     two_takes byte byte (14 ∷ []) Enqueue (spelled_ask version) (AskFits version) (λ a b. refl) (λ a b p q. (p, q))
-body_takes version ToEnqueued =
+body_takes version to.Enqueued =
     two_takes byte byte (15 ∷ []) Enqueued (spelled_ask version) (AskFits version) (λ a b. refl) (λ a b p q. (p, q))
-body_takes version ToMakeQueue = one_takes byte (16 ∷ []) MakeQueue (spelled_ask version) (AskFits version) (λ a. refl) (λ a p. p)
-body_takes version ToPoll = two_takes byte byte (17 ∷ []) Poll (spelled_ask version) (AskFits version) (λ a b. refl) (λ a b p q. (p, q))
-body_takes version ToRemove =
+body_takes version to.MakeQueue = one_takes byte (16 ∷ []) MakeQueue (spelled_ask version) (AskFits version) (λ a. refl) (λ a p. p)
+body_takes version to.Poll = two_takes byte byte (17 ∷ []) Poll (spelled_ask version) (AskFits version) (λ a b. refl) (λ a b p q. (p, q))
+body_takes version to.Remove =
     two_takes byte byte (18 ∷ []) Remove (spelled_ask version) (AskFits version) (λ a b. refl) (λ a b p q. (p, q))
-body_takes version ToMakeCleaner = one_takes byte (19 ∷ []) MakeCleaner (spelled_ask version) (AskFits version) (λ a. refl) (λ a p. p)
-body_takes version ToRegister = four_takes byte byte byte four_bytes (20 ∷ []) Register (spelled_ask version) (AskFits version)
+body_takes version to.MakeCleaner = one_takes byte (19 ∷ []) MakeCleaner (spelled_ask version) (AskFits version) (λ a. refl) (λ a p. p)
+body_takes version to.Register = four_takes byte byte byte four_bytes (20 ∷ []) Register (spelled_ask version) (AskFits version)
     (λ a b c d. refl) (λ a b c d p q r s. (p, q, r, s))
-body_takes version ToClean = two_takes byte byte (21 ∷ []) Clean (spelled_ask version) (AskFits version) (λ a b. refl) (λ a b p q. (p, q))
-body_takes version ToPrepare = one_takes byte (22 ∷ []) Prepare (spelled_ask version) (AskFits version) (λ a. refl) (λ a p. p)
-body_takes version ToOpened = two_takes byte outcome (23 ∷ []) Opened (spelled_ask version) (AskFits version) (λ a b. refl) (λ a b p q. p)
-body_takes version ToCheckOut =
+body_takes version to.Clean = two_takes byte byte (21 ∷ []) Clean (spelled_ask version) (AskFits version) (λ a b. refl) (λ a b p q. (p, q))
+body_takes version to.Prepare = one_takes byte (22 ∷ []) Prepare (spelled_ask version) (AskFits version) (λ a. refl) (λ a p. p)
+body_takes version to.Opened = two_takes byte outcome (23 ∷ []) Opened (spelled_ask version) (AskFits version) (λ a b. refl) (λ a b p q. p)
+body_takes version to.CheckOut =
     two_takes byte byte (24 ∷ []) CheckOut (spelled_ask version) (AskFits version) (λ a b. refl) (λ a b p q. (p, q))
-body_takes version ToCheckIn =
+body_takes version to.CheckIn =
     two_takes byte call_outcome (25 ∷ []) CheckIn (spelled_ask version) (AskFits version) (λ a b. refl) (λ a b p q. (p, q))
-body_takes version ToClose = two_takes byte byte (26 ∷ []) Close (spelled_ask version) (AskFits version) (λ a b. refl) (λ a b p q. (p, q))
-body_takes version ToFinish =
+body_takes version to.Close = two_takes byte byte (26 ∷ []) Close (spelled_ask version) (AskFits version) (λ a b. refl) (λ a b p q. (p, q))
+body_takes version to.Finish =
     three_takes byte eight_bytes outcome (27 ∷ []) Finish (spelled_ask version) (AskFits version) (λ a b c. refl) (λ a b c p q r. (p, q))
-body_takes version ToBind =
+body_takes version to.Bind =
     three_takes byte name byte (28 ∷ []) Bind (spelled_ask version) (AskFits version) (λ a b c. refl) (λ a b c p q r. (p, q, r))
-body_takes version ToFind = two_takes byte name (29 ∷ []) Find (spelled_ask version) (AskFits version) (λ a b. refl) (λ a b p q. (p, q))
-body_takes version ToUnbind =
+body_takes version to.Find = two_takes byte name (29 ∷ []) Find (spelled_ask version) (AskFits version) (λ a b. refl) (λ a b p q. (p, q))
+body_takes version to.Unbind =
     two_takes byte name (30 ∷ []) Unbind (spelled_ask version) (AskFits version) (λ a b. refl) (λ a b p q. (p, q))
-body_takes version ToNames = one_takes byte (31 ∷ []) Names (spelled_ask version) (AskFits version) (λ a. refl) (λ a p. p)
-body_takes version ToFull = two_takes byte mode (32 ∷ []) Full (spelled_ask version) (AskFits version) (λ a b. refl) (λ a b p q. p)
-body_takes version ToStat = one_takes byte (33 ∷ []) Stat (spelled_ask version) (AskFits version) (λ a. refl) (λ a p. p)
-body_takes version ToNotes = one_takes byte (34 ∷ []) Notes (spelled_ask version) (AskFits version) (λ a. refl) (λ a p. p)
-body_takes version ToFaults = one_takes byte (35 ∷ []) Faults (spelled_ask version) (AskFits version) (λ a. refl) (λ a p. p)
-body_takes version ToHandOver = made_takes (36 ∷ []) HandOver (spelled_ask version) (AskFits version) refl tt
-body_takes version ToTakeUp = made_takes (37 ∷ []) TakeUp (spelled_ask version) (AskFits version) refl tt
-body_takes version ToBegin = made_takes (38 ∷ []) Begin (spelled_ask version) (AskFits version) refl tt
-body_takes version ToCollect = made_takes (39 ∷ []) Collect (spelled_ask version) (AskFits version) refl tt
-body_takes version ToAbandon = made_takes (40 ∷ []) Abandon (spelled_ask version) (AskFits version) refl tt
-body_takes version ToArray = array_takes version
+body_takes version to.Names = one_takes byte (31 ∷ []) Names (spelled_ask version) (AskFits version) (λ a. refl) (λ a p. p)
+body_takes version to.Full = two_takes byte mode (32 ∷ []) Full (spelled_ask version) (AskFits version) (λ a b. refl) (λ a b p q. p)
+body_takes version to.Stat = one_takes byte (33 ∷ []) Stat (spelled_ask version) (AskFits version) (λ a. refl) (λ a p. p)
+body_takes version to.Notes = one_takes byte (34 ∷ []) Notes (spelled_ask version) (AskFits version) (λ a. refl) (λ a p. p)
+body_takes version to.Faults = one_takes byte (35 ∷ []) Faults (spelled_ask version) (AskFits version) (λ a. refl) (λ a p. p)
+body_takes version to.HandOver = made_takes (36 ∷ []) HandOver (spelled_ask version) (AskFits version) refl tt
+body_takes version to.TakeUp = made_takes (37 ∷ []) TakeUp (spelled_ask version) (AskFits version) refl tt
+body_takes version to.Begin = made_takes (38 ∷ []) Begin (spelled_ask version) (AskFits version) refl tt
+body_takes version to.Collect = made_takes (39 ∷ []) Collect (spelled_ask version) (AskFits version) refl tt
+body_takes version to.Abandon = made_takes (40 ∷ []) Abandon (spelled_ask version) (AskFits version) refl tt
+body_takes version to.Array = array_takes version
 
 ask_takes : (version : Version) → TakesSpelled (ask_read version) (spelled_ask version) (AskFits version)
 unfolding ask_read
@@ -301,49 +290,23 @@ ask_takes version bs x rest fits e =
 
 ask_again : (version : Version) → ReadsAgain (ask_read version) (spelled_ask version) (AskFits version)
 unfolding ask_read picked_at
-ask_again version (Join mutator) rest fits = refl
-ask_again version (Leave mutator) rest fits = refl
 ask_again version (New a b) rest fits = two_again byte layout New a b fits.0 fits.1 rest
 ask_again version (Put a b c d) rest fits = four_again byte byte (field version) byte Put a b c d fits.0 fits.1 fits.2 fits.3 rest
 ask_again version (Get a b c) rest fits = three_again byte byte (field version) Get a b c fits.0 fits.1 fits.2 rest
 ask_again version (SetInt a b c d) rest fits = four_again byte byte (field version) signed SetInt a b c d fits.0 fits.1 fits.2 fits.3 rest
 ask_again version (Int a b c) rest fits = three_again byte byte (field version) Int a b c fits.0 fits.1 fits.2 rest
-ask_again version (Dup mutator object) rest fits = refl
-ask_again version (Drop mutator object) rest fits = refl
-ask_again version (Same mutator left right) rest fits = refl
 ask_again version (MakeRef a b c d) rest fits = four_again byte ref_kind byte byte MakeRef a b c d fits.0 tt fits.1 fits.2 rest
-ask_again version (Deref mutator reference) rest fits = refl
-ask_again version (Refers mutator reference object) rest fits = refl
-ask_again version (Clear mutator reference) rest fits = refl
-ask_again version (Enqueue mutator reference) rest fits = refl
-ask_again version (Enqueued mutator reference) rest fits = refl
-ask_again version (MakeQueue mutator) rest fits = refl
-ask_again version (Poll mutator queue) rest fits = refl
-ask_again version (Remove mutator queue) rest fits = refl
-ask_again version (MakeCleaner mutator) rest fits = refl
 ask_again version (Register a b c d) rest fits = four_again byte byte byte four_bytes Register a b c d fits.0 fits.1 fits.2 fits.3 rest
-ask_again version (Clean mutator cleanable) rest fits = refl
-ask_again version (Prepare mutator) rest fits = refl
 ask_again version (Opened a b) rest fits = two_again byte outcome Opened a b fits tt rest
-ask_again version (CheckOut mutator guard) rest fits = refl
 ask_again version (CheckIn a b) rest fits = two_again byte call_outcome CheckIn a b fits.0 fits.1 rest
-ask_again version (Close mutator guard) rest fits = refl
 ask_again version (Finish a b c) rest fits = three_again byte eight_bytes outcome Finish a b c fits.0 fits.1 tt rest
 ask_again version (Bind a b c) rest fits = three_again byte name byte Bind a b c fits.0 fits.1 fits.2 rest
 ask_again version (Find a b) rest fits = two_again byte name Find a b fits.0 fits.1 rest
 ask_again version (Unbind a b) rest fits = two_again byte name Unbind a b fits.0 fits.1 rest
-ask_again version (Names mutator) rest fits = refl
 ask_again version (Full a b) rest fits = two_again byte mode Full a b fits tt rest
-ask_again version (Stat mutator) rest fits = refl
-ask_again version (Notes mutator) rest fits = refl
-ask_again version (Faults mutator) rest fits = refl
-ask_again version HandOver rest fits = refl
-ask_again version TakeUp rest fits = refl
-ask_again version Begin rest fits = refl
-ask_again version Collect rest fits = refl
-ask_again version Abandon rest fits = refl
 ask_again One (Array a b) rest fits = absurd fits
 ask_again Two (Array a b) rest fits = two_again byte element_count Array a b fits.0 fits.1 rest
+ask_again version asked rest fits = refl
 
 pub ask : (version : Version) → IsField (ask_read version) (spelled_ask version) (AskFits version)
 ask version = record { takes = ask_takes version; again = ask_again version }

@@ -34,24 +34,7 @@ use Rattle.jlr_trace_fields.specs.Tables.{ref_kinds, ref_kind_number, faults, fa
 use Rattle.jlr_trace_fields.specs.Records.{NameFits}
 use Rattle.jlr_machine.specs.declared.kind.AskKind.{AskKind}
 use Rattle.jlr_machine.specs.AskKinds.{ask_kinds}
-use Rattle.jlr_machine.specs.declared.kind.AskKind.TheVariants.{Join as ToJoin, Leave as ToLeave, New as ToNew}
-use Rattle.jlr_machine.specs.declared.kind.AskKind.TheVariants.{Put as ToPut, Get as ToGet, SetInt as ToSetInt}
-use Rattle.jlr_machine.specs.declared.kind.AskKind.TheVariants.{Int as ToInt, Dup as ToDup, Drop as ToDrop}
-use Rattle.jlr_machine.specs.declared.kind.AskKind.TheVariants.{Same as ToSame, MakeRef as ToMakeRef, Deref as ToDeref}
-use Rattle.jlr_machine.specs.declared.kind.AskKind.TheVariants.{Refers as ToRefers, Clear as ToClear}
-use Rattle.jlr_machine.specs.declared.kind.AskKind.TheVariants.{Enqueue as ToEnqueue, Enqueued as ToEnqueued}
-use Rattle.jlr_machine.specs.declared.kind.AskKind.TheVariants.{MakeQueue as ToMakeQueue, Poll as ToPoll}
-use Rattle.jlr_machine.specs.declared.kind.AskKind.TheVariants.{Remove as ToRemove, MakeCleaner as ToMakeCleaner}
-use Rattle.jlr_machine.specs.declared.kind.AskKind.TheVariants.{Register as ToRegister, Clean as ToClean}
-use Rattle.jlr_machine.specs.declared.kind.AskKind.TheVariants.{Prepare as ToPrepare, Opened as ToOpened}
-use Rattle.jlr_machine.specs.declared.kind.AskKind.TheVariants.{CheckOut as ToCheckOut, CheckIn as ToCheckIn}
-use Rattle.jlr_machine.specs.declared.kind.AskKind.TheVariants.{Close as ToClose, Finish as ToFinish, Bind as ToBind}
-use Rattle.jlr_machine.specs.declared.kind.AskKind.TheVariants.{Find as ToFind, Unbind as ToUnbind, Names as ToNames}
-use Rattle.jlr_machine.specs.declared.kind.AskKind.TheVariants.{Full as ToFull, Stat as ToStat, Notes as ToNotes}
-use Rattle.jlr_machine.specs.declared.kind.AskKind.TheVariants.{Faults as ToFaults, HandOver as ToHandOver}
-use Rattle.jlr_machine.specs.declared.kind.AskKind.TheVariants.{TakeUp as ToTakeUp, Begin as ToBegin}
-use Rattle.jlr_machine.specs.declared.kind.AskKind.TheVariants.{Collect as ToCollect, Abandon as ToAbandon}
-use Rattle.jlr_machine.specs.declared.kind.AskKind.TheVariants.{Array as ToArray}
+use Rattle.jlr_machine.specs.declared.kind.AskKind.TheVariants as to
 
 -- ---- Tables
 
@@ -233,48 +216,48 @@ array_read Two bytes = two_fields byte_at (number_within_at w16 1 4096) Array by
 
 -- what stands behind the number of an ask
 abbrev pub ask_body : Version → AskKind → Reader Ask
-ask_body version ToJoin bytes = one_field byte_at Join bytes
-ask_body version ToLeave bytes = one_field byte_at Leave bytes
-ask_body version ToNew bytes = two_fields byte_at layout_read New bytes
-ask_body version ToPut bytes = four_fields byte_at byte_at (field_read version) byte_at Put bytes
-ask_body version ToGet bytes = three_fields byte_at byte_at (field_read version) Get bytes
-ask_body version ToSetInt bytes = four_fields byte_at byte_at (field_read version) signed_at SetInt bytes
-ask_body version ToInt bytes = three_fields byte_at byte_at (field_read version) Int bytes
-ask_body version ToDup bytes = two_fields byte_at byte_at Dup bytes
-ask_body version ToDrop bytes = two_fields byte_at byte_at Drop bytes
-ask_body version ToSame bytes = three_fields byte_at byte_at byte_at Same bytes
-ask_body version ToMakeRef bytes = four_fields byte_at (picked_at 0 ref_kinds) byte_at byte_at MakeRef bytes
-ask_body version ToDeref bytes = two_fields byte_at byte_at Deref bytes
-ask_body version ToRefers bytes = three_fields byte_at byte_at byte_at Refers bytes
-ask_body version ToClear bytes = two_fields byte_at byte_at Clear bytes
-ask_body version ToEnqueue bytes = two_fields byte_at byte_at Enqueue bytes
-ask_body version ToEnqueued bytes = two_fields byte_at byte_at Enqueued bytes
-ask_body version ToMakeQueue bytes = one_field byte_at MakeQueue bytes
-ask_body version ToPoll bytes = two_fields byte_at byte_at Poll bytes
-ask_body version ToRemove bytes = two_fields byte_at byte_at Remove bytes
-ask_body version ToMakeCleaner bytes = one_field byte_at MakeCleaner bytes
-ask_body version ToRegister bytes = four_fields byte_at byte_at byte_at (number_at w32) Register bytes
-ask_body version ToClean bytes = two_fields byte_at byte_at Clean bytes
-ask_body version ToPrepare bytes = one_field byte_at Prepare bytes
-ask_body version ToOpened bytes = two_fields byte_at (picked_at 0 outcomes_by_number) Opened bytes
-ask_body version ToCheckOut bytes = two_fields byte_at byte_at CheckOut bytes
-ask_body version ToCheckIn bytes = two_fields byte_at call_outcome_read CheckIn bytes
-ask_body version ToClose bytes = two_fields byte_at byte_at Close bytes
-ask_body version ToFinish bytes = three_fields byte_at (number_at w64) (picked_at 0 outcomes_by_number) Finish bytes
-ask_body version ToBind bytes = three_fields byte_at (text_at 1 32 is_name_byte) byte_at Bind bytes
-ask_body version ToFind bytes = two_fields byte_at (text_at 1 32 is_name_byte) Find bytes
-ask_body version ToUnbind bytes = two_fields byte_at (text_at 1 32 is_name_byte) Unbind bytes
-ask_body version ToNames bytes = one_field byte_at Names bytes
-ask_body version ToFull bytes = two_fields byte_at (picked_at 0 modes) Full bytes
-ask_body version ToStat bytes = one_field byte_at Stat bytes
-ask_body version ToNotes bytes = one_field byte_at Notes bytes
-ask_body version ToFaults bytes = one_field byte_at Faults bytes
-ask_body version ToHandOver bytes = Ok (HandOver, bytes)
-ask_body version ToTakeUp bytes = Ok (TakeUp, bytes)
-ask_body version ToBegin bytes = Ok (Begin, bytes)
-ask_body version ToCollect bytes = Ok (Collect, bytes)
-ask_body version ToAbandon bytes = Ok (Abandon, bytes)
-ask_body version ToArray bytes = array_read version bytes
+ask_body version to.Join bytes = one_field byte_at Join bytes
+ask_body version to.Leave bytes = one_field byte_at Leave bytes
+ask_body version to.New bytes = two_fields byte_at layout_read New bytes
+ask_body version to.Put bytes = four_fields byte_at byte_at (field_read version) byte_at Put bytes
+ask_body version to.Get bytes = three_fields byte_at byte_at (field_read version) Get bytes
+ask_body version to.SetInt bytes = four_fields byte_at byte_at (field_read version) signed_at SetInt bytes
+ask_body version to.Int bytes = three_fields byte_at byte_at (field_read version) Int bytes
+ask_body version to.Dup bytes = two_fields byte_at byte_at Dup bytes
+ask_body version to.Drop bytes = two_fields byte_at byte_at Drop bytes
+ask_body version to.Same bytes = three_fields byte_at byte_at byte_at Same bytes
+ask_body version to.MakeRef bytes = four_fields byte_at (picked_at 0 ref_kinds) byte_at byte_at MakeRef bytes
+ask_body version to.Deref bytes = two_fields byte_at byte_at Deref bytes
+ask_body version to.Refers bytes = three_fields byte_at byte_at byte_at Refers bytes
+ask_body version to.Clear bytes = two_fields byte_at byte_at Clear bytes
+ask_body version to.Enqueue bytes = two_fields byte_at byte_at Enqueue bytes
+ask_body version to.Enqueued bytes = two_fields byte_at byte_at Enqueued bytes
+ask_body version to.MakeQueue bytes = one_field byte_at MakeQueue bytes
+ask_body version to.Poll bytes = two_fields byte_at byte_at Poll bytes
+ask_body version to.Remove bytes = two_fields byte_at byte_at Remove bytes
+ask_body version to.MakeCleaner bytes = one_field byte_at MakeCleaner bytes
+ask_body version to.Register bytes = four_fields byte_at byte_at byte_at (number_at w32) Register bytes
+ask_body version to.Clean bytes = two_fields byte_at byte_at Clean bytes
+ask_body version to.Prepare bytes = one_field byte_at Prepare bytes
+ask_body version to.Opened bytes = two_fields byte_at (picked_at 0 outcomes_by_number) Opened bytes
+ask_body version to.CheckOut bytes = two_fields byte_at byte_at CheckOut bytes
+ask_body version to.CheckIn bytes = two_fields byte_at call_outcome_read CheckIn bytes
+ask_body version to.Close bytes = two_fields byte_at byte_at Close bytes
+ask_body version to.Finish bytes = three_fields byte_at (number_at w64) (picked_at 0 outcomes_by_number) Finish bytes
+ask_body version to.Bind bytes = three_fields byte_at (text_at 1 32 is_name_byte) byte_at Bind bytes
+ask_body version to.Find bytes = two_fields byte_at (text_at 1 32 is_name_byte) Find bytes
+ask_body version to.Unbind bytes = two_fields byte_at (text_at 1 32 is_name_byte) Unbind bytes
+ask_body version to.Names bytes = one_field byte_at Names bytes
+ask_body version to.Full bytes = two_fields byte_at (picked_at 0 modes) Full bytes
+ask_body version to.Stat bytes = one_field byte_at Stat bytes
+ask_body version to.Notes bytes = one_field byte_at Notes bytes
+ask_body version to.Faults bytes = one_field byte_at Faults bytes
+ask_body version to.HandOver bytes = Ok (HandOver, bytes)
+ask_body version to.TakeUp bytes = Ok (TakeUp, bytes)
+ask_body version to.Begin bytes = Ok (Begin, bytes)
+ask_body version to.Collect bytes = Ok (Collect, bytes)
+ask_body version to.Abandon bytes = Ok (Abandon, bytes)
+ask_body version to.Array bytes = array_read version bytes
 
 unfoldable pub ask_read : Version → Reader Ask
 ask_read version bytes = picked_at 0 ask_kinds bytes >>= λ kind. ask_body version kind.0 kind.1

@@ -23,12 +23,12 @@ use Rattle.jlr_wire.specs.Commands.{Fields}
 use Rattle.jlr_wire.specs.Reading.{◌>>=◌, layout_of, count_of, length_of, among, names_with_word, names_with_words, names_alone}
 use Rattle.jlr_wire.specs.Reading.{names_with_number, names_with_two, command_named, with_number, with_two_numbers, reading_1, reading_2}
 use Rattle.jlr_wire.specs.Reading.{reading_3, reading_4, reading}
-use Rattle.jlr_machine.specs.declared.ask.FullMode.TheVariants.{Policy, ClearAll}
+use Rattle.jlr_machine.specs.declared.ask.FullMode.TheVariants.{ClearAll}
 use Rattle.jlr_wire.specs.declared.command.Command.{Command}
 use Rattle.jlr_wire.specs.declared.command.Command.TheVariants.{New, Put, Get, SetInt, Int, Dup, Drop, Same, Soft, Weak, Phantom, Deref}
-use Rattle.jlr_wire.specs.declared.command.Command.TheVariants.{Refers, Clear, Enqueue, Enqueued, Queue, Poll, Remove, Cleaner, Register}
-use Rattle.jlr_wire.specs.declared.command.Command.TheVariants.{Clean, Open, Connect, Read, Write, Close, Bind, Find, Unbind, Names, Full}
-use Rattle.jlr_wire.specs.declared.command.Command.TheVariants.{Stat, Notes, Faults, Bye, Array}
+use Rattle.jlr_wire.specs.declared.command.Command.TheVariants.{Refers, Clear, Enqueue, Enqueued, Poll, Remove, Register}
+use Rattle.jlr_wire.specs.declared.command.Command.TheVariants.{Clean, Open, Connect, Read, Write, Close, Bind, Find, Unbind, Full}
+use Rattle.jlr_wire.specs.declared.command.Command.TheVariants.{Array}
 
 field_of_decimal : (n : ℕ) → n < 4096 → field_of (decimal n) ≡ Some n
 field_of_decimal n lt = number_below_decimal 4096 n (omega arith) lt
@@ -65,10 +65,8 @@ complete (Refers r h) fields f = rw (f.2, byte_of_decimal r f.0, byte_of_decimal
 complete (Clear r) fields f = rw (f.1, byte_of_decimal r f.0) refl
 complete (Enqueue r) fields f = rw (f.1, byte_of_decimal r f.0) refl
 complete (Enqueued r) fields f = rw (f.1, byte_of_decimal r f.0) refl
-complete Queue fields f = rw f refl
 complete (Poll q) fields f = rw (f.1, byte_of_decimal q f.0) refl
 complete (Remove q) fields f = rw (f.1, byte_of_decimal q f.0) refl
-complete Cleaner fields f = rw f refl
 complete (Register c h n) fields f = rw (f.3, byte_of_decimal c f.0, byte_of_decimal h f.1, note_of_decimal n f.2) refl
 complete (Clean c) fields f = rw (f.1, byte_of_decimal c f.0) refl
 complete (Open mode path) fields f = rw (f.1, mode_of_letter mode, word_of_word 255 is_ascii_graphic path f.0) refl
@@ -79,13 +77,7 @@ complete (Close h) fields f = rw (f.1, byte_of_decimal h f.0) refl
 complete (Bind name h) fields f = rw (f.2, word_of_word 32 is_name_byte name f.0, byte_of_decimal h f.1) refl
 complete (Find name) fields f = rw (f.1, word_of_word 32 is_name_byte name f.0) refl
 complete (Unbind name) fields f = rw (f.1, word_of_word 32 is_name_byte name f.0) refl
-complete Names fields f = rw f refl
-complete (Full Policy) fields f = rw f refl
-complete (Full ClearAll) fields f = rw f refl
-complete Stat fields f = rw f refl
-complete Notes fields f = rw f refl
-complete Faults fields f = rw f refl
-complete Bye fields f = rw f refl
+complete command fields f = rw f refl
 
 same_name : (name word : List ℕ) → bytes_eq name word ≡ true → name ≡ word
 same_name name word = (bytes_eq-Decides name word).0

@@ -18,9 +18,9 @@ use Rattle.jlr_wire.specs.Commands.{Fields, IsCommand}
 use Rattle.jlr_wire.specs.Spelling.{has_digits}
 use Rattle.jlr_machine.specs.declared.ask.FullMode.TheVariants.{Policy, ClearAll}
 use Rattle.jlr_wire.specs.declared.command.Command.{Command}
-use Rattle.jlr_wire.specs.declared.command.Command.TheVariants.{New, Put, Get, SetInt, Int, Dup, Drop, Same, Soft, Weak, Phantom, Deref}
-use Rattle.jlr_wire.specs.declared.command.Command.TheVariants.{Refers, Clear, Enqueue, Enqueued, Queue, Poll, Remove, Cleaner, Register}
-use Rattle.jlr_wire.specs.declared.command.Command.TheVariants.{Clean, Open, Connect, Read, Write, Close, Bind, Find, Unbind, Names, Full}
+use Rattle.jlr_wire.specs.declared.command.Command.TheVariants.{Put, Get, SetInt, Int, Same, Soft, Weak, Phantom}
+use Rattle.jlr_wire.specs.declared.command.Command.TheVariants.{Refers, Queue, Cleaner, Register}
+use Rattle.jlr_wire.specs.declared.command.Command.TheVariants.{Read, Write, Bind, Names, Full}
 use Rattle.jlr_wire.specs.declared.command.Command.TheVariants.{Stat, Notes, Faults, Bye, Array}
 
 -- ---- digits in small letters
@@ -98,37 +98,22 @@ small_join w h x y e =
 
 one_form : (c : Command) (xs ys : List (List ℕ)) → Fields c xs → Fields c ys → (xs ≡ ys)
     ⊎ ((a : ℕ) × (bytes : List ℕ) × (c ≡ Write a bytes))
-one_form (New a) xs ys f g = inl (f.1 ∙ sym g.1)
 one_form (Put a b c) xs ys f g = inl (f.3 ∙ sym g.3)
 one_form (Get a b) xs ys f g = inl (f.2 ∙ sym g.2)
 one_form (Array n) xs ys f g = inl (f.2 ∙ sym g.2)
 one_form (SetInt a b c) xs ys f g = inl (f.3 ∙ sym g.3)
 one_form (Int a b) xs ys f g = inl (f.2 ∙ sym g.2)
-one_form (Dup a) xs ys f g = inl (f.1 ∙ sym g.1)
-one_form (Drop a) xs ys f g = inl (f.1 ∙ sym g.1)
 one_form (Same a b) xs ys f g = inl (f.2 ∙ sym g.2)
 one_form (Soft a b) xs ys f g = inl (f.2 ∙ sym g.2)
 one_form (Weak a b) xs ys f g = inl (f.2 ∙ sym g.2)
 one_form (Phantom a b) xs ys f g = inl (f.2 ∙ sym g.2)
-one_form (Deref a) xs ys f g = inl (f.1 ∙ sym g.1)
 one_form (Refers a b) xs ys f g = inl (f.2 ∙ sym g.2)
-one_form (Clear a) xs ys f g = inl (f.1 ∙ sym g.1)
-one_form (Enqueue a) xs ys f g = inl (f.1 ∙ sym g.1)
-one_form (Enqueued a) xs ys f g = inl (f.1 ∙ sym g.1)
 one_form Queue xs ys f g = inl (f ∙ sym g)
-one_form (Poll a) xs ys f g = inl (f.1 ∙ sym g.1)
-one_form (Remove a) xs ys f g = inl (f.1 ∙ sym g.1)
 one_form Cleaner xs ys f g = inl (f ∙ sym g)
 one_form (Register a b c) xs ys f g = inl (f.3 ∙ sym g.3)
-one_form (Clean a) xs ys f g = inl (f.1 ∙ sym g.1)
-one_form (Open a b) xs ys f g = inl (f.1 ∙ sym g.1)
-one_form (Connect a) xs ys f g = inl (f.1 ∙ sym g.1)
 one_form (Read a b) xs ys f g = inl (f.3 ∙ sym g.3)
 one_form (Write a b) xs ys f g = inr (a, b, refl)
-one_form (Close a) xs ys f g = inl (f.1 ∙ sym g.1)
 one_form (Bind a b) xs ys f g = inl (f.2 ∙ sym g.2)
-one_form (Find a) xs ys f g = inl (f.1 ∙ sym g.1)
-one_form (Unbind a) xs ys f g = inl (f.1 ∙ sym g.1)
 one_form Names xs ys f g = inl (f ∙ sym g)
 one_form (Full Policy) xs ys f g = inl (f ∙ sym g)
 one_form (Full ClearAll) xs ys f g = inl (f ∙ sym g)
@@ -136,6 +121,7 @@ one_form Stat xs ys f g = inl (f ∙ sym g)
 one_form Notes xs ys f g = inl (f ∙ sym g)
 one_form Faults xs ys f g = inl (f ∙ sym g)
 one_form Bye xs ys f g = inl (f ∙ sym g)
+one_form command xs ys f g = inl (f.1 ∙ sym g.1)
 
 small_lines : (a : ℕ) (bytes line other : List ℕ) → IsCommand line (Write a bytes) → IsCommand other (Write a bytes)
     → map to_ascii_lowercase line ≡ map to_ascii_lowercase other

@@ -10,7 +10,6 @@ use jlr_machine::machine::Machine;
 use jlr_plain::collecting::may_collect_plain;
 use jlr_plain::room::fresh_slots;
 use jlr_plain_asks::answers::replies::is_reply;
-use jlr_plain_asks::operands::cells_of;
 use jlr_plain_asks::refusals::refusal_plain;
 use jlr_plain_collections::left::collected_plain;
 use jlr_types::Refusal;
@@ -74,7 +73,7 @@ fn is_answered_by_choice(ask: &Ask) -> bool {
 
 /// Of an ask that is carried out in this machine.
 fn when_carried_out(alloc: Global, machine: &Machine, entry: &Entry) -> Result<String, AllocError> {
-    let cells = cells_of(&entry.ask);
+    let cells = entry.ask.cells() as usize;
     if !fresh_slots(&machine.objects, cells, entry.choice.fresh().as_slice()) {
         let objects = if cells == 1 { "object" } else { "objects" };
         return Ok(format!(in alloc;

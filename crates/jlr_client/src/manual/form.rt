@@ -3,9 +3,10 @@ ghost use Rattle.std.specs.Prelude.{◌≡◌};
 ghost use Rattle.std.specs.List.{Contains};
 ghost use Rattle.jlr_client.specs.declared.manual.form.Form.{Form as FormOf};
 ghost use Rattle.jlr_client.specs.Forms.{word_of_form, operands_of};
-ghost use Rattle.jlr_client.specs.Refusals.{refusals_of};
+ghost use Rattle.jlr_client.specs.Refusals.{first_ask, refusals_of};
 
 use crate::manual::operand::Operand;
+use jlr_machine::kind::AskKind;
 use jlr_types::Refusal;
 
 /// The form of a command: its word, or for `gc soft` its two words.
@@ -222,129 +223,51 @@ impl Form {
     pub fn refusals(self) -> &'static [Refusal]
         ensures { result.now ≡ refusals_of self }
     {
-        match self {
-            Form::New | Form::Array | Form::Queue | Form::Cleaner => &[
-                Refusal::NoSession,
-                Refusal::Busy,
-                Refusal::HandlesFull,
-                Refusal::HeapFull,
-            ],
-            Form::Put | Form::SetInt | Form::Int => &[
-                Refusal::NoSession,
-                Refusal::NoHandle,
-                Refusal::Null,
-                Refusal::WrongKind,
-                Refusal::NoField,
-                Refusal::WrongType,
-                Refusal::Busy,
-            ],
-            Form::Get => &[
-                Refusal::NoSession,
-                Refusal::NoHandle,
-                Refusal::Null,
-                Refusal::WrongKind,
-                Refusal::NoField,
-                Refusal::WrongType,
-                Refusal::Busy,
-                Refusal::HandlesFull,
-            ],
-            Form::Dup => &[
-                Refusal::NoSession,
-                Refusal::NoHandle,
-                Refusal::Null,
-                Refusal::Busy,
-                Refusal::HandlesFull,
-            ],
-            Form::Drop => &[
-                Refusal::NoSession,
-                Refusal::NoHandle,
-                Refusal::Null,
-                Refusal::Busy,
-            ],
-            Form::Same => &[Refusal::NoSession, Refusal::NoHandle, Refusal::Busy],
-            Form::Soft | Form::Weak | Form::Phantom => &[
-                Refusal::NoSession,
-                Refusal::NoHandle,
-                Refusal::Null,
-                Refusal::WrongKind,
-                Refusal::Busy,
-                Refusal::HandlesFull,
-                Refusal::HeapFull,
-            ],
-            Form::Deref | Form::Poll => &[
-                Refusal::NoSession,
-                Refusal::NoHandle,
-                Refusal::Null,
-                Refusal::WrongKind,
-                Refusal::Busy,
-                Refusal::HandlesFull,
-            ],
-            Form::Refers
-            | Form::Clear
-            | Form::Enqueue
-            | Form::Enqueued
-            | Form::Clean
-            | Form::Close => &[
-                Refusal::NoSession,
-                Refusal::NoHandle,
-                Refusal::Null,
-                Refusal::WrongKind,
-                Refusal::Busy,
-            ],
-            Form::Remove => &[
-                Refusal::NoSession,
-                Refusal::NoHandle,
-                Refusal::Null,
-                Refusal::WrongKind,
-                Refusal::Busy,
-                Refusal::WouldWait,
-                Refusal::HandlesFull,
-            ],
-            Form::Register => &[
-                Refusal::NoSession,
-                Refusal::NoHandle,
-                Refusal::Null,
-                Refusal::WrongKind,
-                Refusal::Busy,
-                Refusal::HandlesFull,
-                Refusal::Exhausted,
-                Refusal::HeapFull,
-            ],
-            Form::Open | Form::Connect => &[
-                Refusal::NoSession,
-                Refusal::Busy,
-                Refusal::HandlesFull,
-                Refusal::ResourcesFull,
-                Refusal::Exhausted,
-                Refusal::HeapFull,
-            ],
-            Form::Read | Form::Write => &[
-                Refusal::NoSession,
-                Refusal::NoHandle,
-                Refusal::Null,
-                Refusal::WrongKind,
-                Refusal::Closed,
-                Refusal::Busy,
-            ],
-            Form::Bind => &[
-                Refusal::NoSession,
-                Refusal::NoHandle,
-                Refusal::Null,
-                Refusal::Busy,
-                Refusal::NamesFull,
-            ],
-            Form::Find => &[
-                Refusal::NoSession,
-                Refusal::NoName,
-                Refusal::Busy,
-                Refusal::HandlesFull,
-            ],
-            Form::Unbind => &[Refusal::NoSession, Refusal::NoName, Refusal::Busy],
-            Form::Names | Form::Gc | Form::GcSoft | Form::Stat | Form::Notes | Form::Faults => &[
-                Refusal::NoSession,
-                Refusal::Busy,
-            ],
-            Form::Bye => &[],
+        match self.first_ask() {
+            Some(kind) => kind.refusals(),
+            None => &[],
         }
+    }
+
+    /// What a command of this form asks first; `bye` asks nothing.
+    fn first_ask(self) -> Option<AskKind>
+        ensures { result ≡ first_ask self }
+    {
+        let kind = match self {
+            Form::New => AskKind::New,
+            Form::Array => AskKind::Array,
+            Form::Put => AskKind::Put,
+            Form::Get => AskKind::Get,
+            Form::SetInt => AskKind::SetInt,
+            Form::Int => AskKind::Int,
+            Form::Dup => AskKind::Dup,
+            Form::Drop => AskKind::Drop,
+            Form::Same => AskKind::Same,
+            Form::Soft | Form::Weak | Form::Phantom => AskKind::MakeRef,
+            Form::Deref => AskKind::Deref,
+            Form::Refers => AskKind::Refers,
+            Form::Clear => AskKind::Clear,
+            Form::Enqueue => AskKind::Enqueue,
+            Form::Enqueued => AskKind::Enqueued,
+            Form::Queue => AskKind::MakeQueue,
+            Form::Poll => AskKind::Poll,
+            Form::Remove => AskKind::Remove,
+            Form::Cleaner => AskKind::MakeCleaner,
+            Form::Register => AskKind::Register,
+            Form::Clean => AskKind::Clean,
+            Form::Open | Form::Connect => AskKind::Prepare,
+            Form::Read | Form::Write => AskKind::CheckOut,
+            Form::Close => AskKind::Close,
+            Form::Bind => AskKind::Bind,
+            Form::Find => AskKind::Find,
+            Form::Unbind => AskKind::Unbind,
+            Form::Names => AskKind::Names,
+            Form::Gc | Form::GcSoft => AskKind::Full,
+            Form::Stat => AskKind::Stat,
+            Form::Notes => AskKind::Notes,
+            Form::Faults => AskKind::Faults,
+            Form::Bye => return None,
+        };
+        Some(kind)
     }
 }
