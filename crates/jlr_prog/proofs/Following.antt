@@ -16,10 +16,10 @@ use Rattle.jlr_event.specs.declared.event.Event.TheVariants as event
 use Rattle.jlr_event.specs.declared.event.Reply.{Reply}
 use Rattle.jlr_event.specs.Events.{ask_of, outcome_of}
 use Rattle.jlr_wire.specs.declared.command.Command.{Command}
-use Rattle.jlr_wire.specs.declared.command.Command.TheVariants.{New, Put, Get, SetInt, Int, Dup, Drop, Same, Soft, Weak, Phantom, Deref}
-use Rattle.jlr_wire.specs.declared.command.Command.TheVariants.{Refers, Clear, Enqueue, Enqueued, Queue, Poll, Remove, Cleaner, Register}
-use Rattle.jlr_wire.specs.declared.command.Command.TheVariants.{Clean, Open, Connect, Read, Write, Close, Bind, Find, Unbind, Names, Full}
-use Rattle.jlr_wire.specs.declared.command.Command.TheVariants.{Stat, Notes, Faults, Array}
+use Rattle.jlr_wire.specs.declared.command.Command.TheVariants.{New, Put, Get, SetInt, Dup, Drop, Soft, Weak, Phantom, Deref}
+use Rattle.jlr_wire.specs.declared.command.Command.TheVariants.{Clear, Enqueue, Queue, Poll, Remove, Cleaner, Register}
+use Rattle.jlr_wire.specs.declared.command.Command.TheVariants.{Clean, Open, Connect, Read, Write, Close, Bind, Find}
+use Rattle.jlr_wire.specs.declared.command.Command.TheVariants.{Bye, Array}
 use Rattle.jlr_cleaner.specs.declared.job.Job.{Job as JobOf}
 use Rattle.jlr_device.specs.Handling.{Handling}
 use Rattle.jlr_session.specs.Calls.{Opening}
@@ -57,18 +57,14 @@ asks_quietly (Array length) = quietly (ask.Array 0 length) (refl, λ m a fresh x
 asks_quietly (Put h f v) = quietly (ask.Put 0 h f v) (refl, λ m a fresh x. put_stays Free m _ (slot_named m 0 h) x)
 asks_quietly (Get h f) = quietly (ask.Get 0 h f) (refl, λ m a fresh x. given_stays Free m (given m (ask.Get 0 h f)) x)
 asks_quietly (SetInt h f n) = quietly (ask.SetInt 0 h f n) (refl, λ m a fresh x. put_stays Free m _ (slot_named m 0 h) x)
-asks_quietly (Int h f) = quietly (ask.Int 0 h f) (refl, λ m a fresh x. x)
 asks_quietly (Dup h) = quietly (ask.Dup 0 h) (refl, λ m a fresh x. given_stays Free m (given m (ask.Dup 0 h)) x)
 asks_quietly (Drop h) = quietly (ask.Drop 0 h) (refl, λ m a fresh x. changed Free m _ (λ s. refl) x)
-asks_quietly (Same a b) = quietly (ask.Same 0 a b) (refl, λ m a fresh x. x)
 asks_quietly (Soft h q) = quietly (ask.MakeRef 0 kind.Soft h q) (refl, λ m a fresh x. made_stays Free m _ fresh x)
 asks_quietly (Weak h q) = quietly (ask.MakeRef 0 kind.Weak h q) (refl, λ m a fresh x. made_stays Free m _ fresh x)
 asks_quietly (Phantom h q) = quietly (ask.MakeRef 0 kind.Phantom h q) (refl, λ m a fresh x. made_stays Free m _ fresh x)
 asks_quietly (Deref r) = quietly (ask.Deref 0 r) (refl, λ m a fresh x. given_stays Free m (given m (ask.Deref 0 r)) x)
-asks_quietly (Refers r h) = quietly (ask.Refers 0 r h) (refl, λ m a fresh x. x)
 asks_quietly (Clear r) = quietly (ask.Clear 0 r) (refl, λ m a fresh x. put_stays Free m _ (slot_named m 0 r) x)
 asks_quietly (Enqueue r) = quietly (ask.Enqueue 0 r) (refl, λ m a fresh x. asked_enqueue_stays Free m (slot_named m 0 r) x)
-asks_quietly (Enqueued r) = quietly (ask.Enqueued 0 r) (refl, λ m a fresh x. x)
 asks_quietly Queue = quietly (ask.MakeQueue 0) (refl, λ m a fresh x. made_stays Free m _ fresh x)
 asks_quietly (Poll q) = quietly (ask.Poll 0 q) (refl, λ m a fresh x. asked_poll_stays Free m (slot_named m 0 q) (given m (ask.Poll 0 q)) x)
 asks_quietly (Remove q) =
@@ -77,13 +73,14 @@ asks_quietly Cleaner = quietly (ask.MakeCleaner 0) (refl, λ m a fresh x. made_s
 asks_quietly (Register c h note) = quietly (ask.Register 0 c h note) (refl, λ m a fresh x. made_stays Free m _ fresh x)
 asks_quietly (Bind name h) = quietly (ask.Bind 0 name h) (refl, λ m a fresh x. bound_stays Free m _ (slot_named m 0 h) (λ s y. y) x)
 asks_quietly (Find name) = quietly (ask.Find 0 name) (refl, λ m a fresh x. given_stays Free m (given m (ask.Find 0 name)) x)
-asks_quietly (Unbind name) = quietly (ask.Unbind 0 name) (refl, λ m a fresh x. x)
-asks_quietly Names = quietly (ask.Names 0) (refl, λ m a fresh x. x)
-asks_quietly (Full mode) = quietly (ask.Full 0 mode) (refl, λ m a fresh x. x)
-asks_quietly Stat = quietly (ask.Stat 0) (refl, λ m a fresh x. x)
-asks_quietly Notes = quietly (ask.Notes 0) (refl, λ m a fresh x. x)
-asks_quietly Faults = quietly (ask.Faults 0) (refl, λ m a fresh x. x)
-asks_quietly c = λ e is. no_some e is
+asks_quietly (Open mode path) = λ e is. no_some e is
+asks_quietly (Connect path) = λ e is. no_some e is
+asks_quietly (Read h count) = λ e is. no_some e is
+asks_quietly (Write h bytes) = λ e is. no_some e is
+asks_quietly (Clean c) = λ e is. no_some e is
+asks_quietly (Close h) = λ e is. no_some e is
+asks_quietly Bye = λ e is. no_some e is
+asks_quietly command = quietly _ (refl, λ m a fresh x. x)
 
 module _ {R : Type 0} (m : Machine) (front : List Entry) where
   quiet_along : (e : Event R) (o : Option Ask) → ask_of e ≡ o → StaysIn o → IsAskFrom m front IsHere IsHere e
