@@ -1,7 +1,7 @@
 //! Figures as JSON, in one line.
+use crate::names::NAMES;
 use crate::stats::asks::SEATS;
 use crate::stats::figures::{Collection, Figures};
-use crate::stats::kind::KINDS;
 use crate::stats::kinds::{KIND_NAMES, Sample};
 use std::alloc::{AllocError, Global};
 
@@ -107,7 +107,7 @@ fn push_seat(
 ) -> Result<(), AllocError> {
     text.push_str(format!(in alloc; "\"{seat}\":{{")?.as_str())?;
     push_member(alloc, text, true, "all", figures.asks.of_seat(seat))?;
-    for (kind, name) in KINDS.iter().enumerate() {
+    for (kind, name) in NAMES.iter().enumerate() {
         let count = figures.asks.of(kind, seat);
         if count > 0 {
             push_member(alloc, text, false, name, count)?;
