@@ -23,7 +23,7 @@ use Rattle.jlr_wire.specs.Commands.{Fields}
 use Rattle.jlr_wire.specs.Reading.{◌>>=◌, layout_of, count_of, length_of, among, names_with_word, names_with_words, names_alone}
 use Rattle.jlr_wire.specs.Reading.{names_with_number, names_with_two, command_named, with_number, with_two_numbers, reading_1, reading_2}
 use Rattle.jlr_wire.specs.Reading.{reading_3, reading_4, reading}
-use Rattle.jlr_machine.specs.declared.ask.FullMode.TheVariants.{ClearAll}
+use Rattle.jlr_machine.specs.declared.ask.FullMode.TheVariants.{Policy, ClearAll}
 use Rattle.jlr_wire.specs.declared.command.Command.{Command}
 use Rattle.jlr_wire.specs.declared.command.Command.TheVariants.{New, Put, Get, SetInt, Int, Dup, Drop, Same, Soft, Weak, Phantom, Deref}
 use Rattle.jlr_wire.specs.declared.command.Command.TheVariants.{Refers, Clear, Enqueue, Enqueued, Poll, Remove, Register}
@@ -77,6 +77,8 @@ complete (Close h) fields f = rw (f.1, byte_of_decimal h f.0) refl
 complete (Bind name h) fields f = rw (f.2, word_of_word 32 is_name_byte name f.0, byte_of_decimal h f.1) refl
 complete (Find name) fields f = rw (f.1, word_of_word 32 is_name_byte name f.0) refl
 complete (Unbind name) fields f = rw (f.1, word_of_word 32 is_name_byte name f.0) refl
+complete (Full Policy) fields f = rw f refl
+complete (Full ClearAll) fields f = rw f refl
 complete command fields f = rw f refl
 
 same_name : (name word : List ℕ) → bytes_eq name word ≡ true → name ≡ word
