@@ -51,9 +51,10 @@ AGAIN, UNTOLD = "stop asked again", "stop was told of no end in order"
 Row = collections.namedtuple("Row", "kinds errors may at", defaults=("",))
 TABLE = [
     Row("socket", "EMFILE ENOMEM", {UNSTARTED, FAULT}),
+    # Then there is no spare descriptor.
+    Row("socketpair", "EMFILE ENOMEM", set()),
     Row("bind", "EACCES ENOSPC", {UNSTARTED}),
-    # A socket that was bound stays where it cannot be listened on.
-    Row("listen", "EACCES", {UNSTARTED, LEFT}),
+    Row("listen", "EACCES", {UNSTARTED}),
     Row("connect", "ECONNREFUSED EACCES EAGAIN", {FAULT}),
     Row("accept4", "EMFILE ECONNABORTED ENOMEM", {ACCEPTS, WAITS, AGAIN}),
     Row("recvfrom", "ECONNRESET ENOMEM", {FAULT, CUT, AGAIN}),
