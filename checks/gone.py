@@ -8,9 +8,9 @@ client that is only half-closed is still answered; who waits takes no processor;
 vanish so, each seat is free again. What a client left
 open is closed on a quiet server, and `open` finds room again. A server that is asked to end answers `! 18` to who waits and all that was
 sent, saves, removes its files and only then lets go who asked, and is gone then: with 64 clients, while it starts, while its save
-fails, asked twice, killed meanwhile, with its socket of control deleted, held by signals, looked at where descriptors ran out, and N times at random
-moments (40). A socket's file of a
-server that was killed is replaced, one of a server that lives is left alone, and so is a file that is not the server's own at its end.
+fails, asked twice, killed meanwhile, with its socket of control deleted, held by signals, looked at where descriptors
+ran out, and N times at random moments (40). A socket's file of a server that was killed is replaced, one of a server
+that lives is left alone, and so is a file that is not the server's own at its end.
 """
 import argparse
 import os

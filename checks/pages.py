@@ -216,9 +216,11 @@ def table_rows(page, columns):
 
 
 def wrong_refusals(page):
-    """Asks with another number or other refusals than `Refusals.listed_of` has, and refusals with another number than `Numbers.number_of` has."""
+    """Asks with another number or other refusals than `Refusals.listed_of` has, and refusals with another number than
+    `Numbers.number_of` has."""
     spec = read("crates/jlr_machine/specs/Refusals.antt")
-    listed = [(ask, re.findall(r"[A-Z]\w+", refusals)) for ask, refusals in re.findall(r"^listed_of to\.(\w+) = (.*)$", spec, re.M)]
+    lines = re.findall(r"^listed_of to\.(\w+) = (.*)$", spec, re.M)
+    listed = [(ask, re.findall(r"[A-Z]\w+", refusals)) for ask, refusals in lines]
     short = {"H": ["NoSession", "NoHandle", "Null"], "K": ["NoSession", "NoHandle", "Null", "WrongKind"]}
     if page == "docs/specification.md":
         told = [(ask, [by for word in refusals.split(", ") if word for by in short.get(word, [word])]) for ask, _, refusals, _, _ in table_rows(page, 5) if ask in dict(listed)]
