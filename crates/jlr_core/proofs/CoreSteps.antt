@@ -62,6 +62,7 @@ steps_core old new event reply chosen formed entry rest piece =
       marking = piece;
       blackens = rest.blackens;
       collects = rest.collects;
+      swept = rest.swept;
       policy = rest.policy;
       age = rest.age;
       clock = rest.clock;

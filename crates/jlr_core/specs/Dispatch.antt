@@ -10,7 +10,7 @@ use Rattle.jlr_state.specs.declared.state.State.{State}
 use Rattle.jlr_state.specs.Machines.{machine_of}
 use Rattle.jlr_state.specs.Events.{WantsMemory}
 use Rattle.jlr_state.specs.Flows.{Conserves, GoesOut, Moves}
-use Rattle.jlr_state.specs.Marks.{Begins, BlackensNew, MarksReached, has_grey}
+use Rattle.jlr_state.specs.Marks.{Begins, BlackensNew, MarksReached, SweepsAll, has_grey}
 use Rattle.jlr_state.specs.Policy.{KeepsByPolicy, clock_after}
 use Rattle.jlr_state.specs.Waiting.{WaitsOn}
 use Rattle.jlr_core.specs.Steps.{LeavesRoom}
@@ -29,6 +29,7 @@ pub record StepsState {R : Type 0} (old : State R) (event : Event R) (answer : O
   pub blackens : BlackensNew event (machine_of old) old.heap.marking chosen (machine_of new) new.heap.marking
   pub collects : ask_of event ≡ Some Collect
       → answer ≡ Some (Truth (old.cycle_open && not (has_grey old.heap.marking)))
+  pub swept : SweepsAll (ask_of event) answer new.heap.condemned
   pub policy : KeepsByPolicy old.soft_age old.heap.clock (machine_of old) old.heap.marking (ask_of event) chosen
   pub age : new.soft_age ≡ old.soft_age
   pub clock : new.heap.clock ≡ clock_after (machine_of old) old.heap.clock (ask_of event) answer chosen

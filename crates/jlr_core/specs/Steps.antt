@@ -15,7 +15,7 @@ use Rattle.jlr_core.specs.Cores.{Kept, StandsIn}
 use Rattle.jlr_state.specs.Events.{EntersLegally, WantsMemory}
 use Rattle.jlr_state.specs.Flows.{Conserves, GoesOut, Moves}
 use Rattle.jlr_state.specs.Policy.{KeepsByPolicy, clock_after}
-use Rattle.jlr_state.specs.Marks.{Begins, BlackensNew, AnswersPiece, budget_of, has_grey}
+use Rattle.jlr_state.specs.Marks.{Begins, BlackensNew, AnswersPiece, SweepsAll, budget_of, has_grey}
 
 -- The core of the empty machine of these limits, whose first action number is this one, with no file or socket.
 pub record IsEmpty {R : Type 0} (cells sessions limit soft_age first : ℕ) (core : Kept R) : Type 0 where
@@ -56,6 +56,8 @@ pub record IsStep {R : Type 0} (old : Kept R) (event : Event R) (reply : Reply R
   -- a Collect is answered yes exactly where a cycle is open and no cell is grey
   pub collects : ask_of event ≡ Some Collect
       → answer_in reply ≡ Some (Truth (old.machine.cycle_open && not (has_grey old.marking)))
+  -- what a full collection took away takes no memory any more
+  pub swept : SweepsAll (ask_of event) (answer_in reply) new.condemned
   -- what a collection keeps, and when soft references were last used
   pub policy : KeepsByPolicy old.soft_age old.clock old.machine old.marking (ask_of event) chosen
   pub age : new.soft_age ≡ old.soft_age

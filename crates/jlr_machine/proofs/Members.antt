@@ -1,12 +1,12 @@
 -- The members of a set of slots, and what one more makes of its list.
 use Rattle.std.proofs.Common.{◌≡◌, ℕ, zero, suc, ◌+◌, ◌<◌, Bool, true, false, List, [], ◌∷◌, ◌++◌, length, replicate, set, refl, sym, ◌∙◌}
-use Rattle.std.proofs.Common.{ap, subst, ◌⊎◌, inl, inr, arith, nat_eq, length-set, get_or-set_same, get_or-set_other}
+use Rattle.std.proofs.Common.{◌||◌, ap, subst, ◌⊎◌, inl, inr, arith, nat_eq, length-set, get_or-set_same, get_or-set_other}
 use Rattle.std.proofs.lemmas.Bool.{cases_eq, cases_lt, cases_Bool, false≢true, eqb-true, eq-eqb, or_cases, or_left, or_right, both_ways}
 use Rattle.std.proofs.lemmas.List.{length-replicate, get_or-replicate, get_or_past}
 use Rattle.std.proofs.lemmas.List.Folds.{list_any-append}
 use Rattle.jlr_machine.specs.Objects.{◌∈◌, ◌∋◌}
 use Rattle.jlr_sets.specs.SlotSets.{is_in, slots_of, slots_below, NoneFrom}
-use Rattle.jlr_sets.proofs.Below.{slots_below-zero, slots_below_same, slots_below_set, slots_below_clear, slots_below_agree}
+use Rattle.jlr_sets.proofs.Below.{within_places, slots_below-zero, slots_below_same, slots_below_set, slots_below_clear, slots_below_agree}
 
 in_front_part : (xs ys : List ℕ) (s : ℕ) → s ∈ xs → s ∈ (xs ++ ys)
 in_front_part xs ys s h = list_any-append (nat_eq s) xs ys ∙ or_left (xs ∋ s) (ys ∋ s) h
@@ -54,6 +54,30 @@ is_member (suc n) places slot l set = elim (cases_Bool (is_in places n)) [
         | inr other ↦ omega arith
       ]) set)
 ]
+
+-- the list of the slots holds a slot just where its place is set
+pub slots_hold : (places : List Bool) (slot : ℕ) → (slots_of places ∋ slot) ≡ is_in places slot
+slots_hold places slot = elim (cases_Bool (is_in places slot)) [
+  | inl set ↦ is_member (length places) places slot (within_places places slot set) set ∙ sym set
+  | inr clear ↦ elim (cases_Bool (slots_of places ∋ slot)) [
+    | inl member ↦ absurd (false≢true (sym clear ∙ (member_is (length places) places slot member).1))
+    | inr none ↦ none ∙ sym clear
+  ]
+]
+
+-- a slot with a place that is set is among these slots and others
+pub set_is_among : (places : List Bool) (others : List ℕ) (slot : ℕ) (inside : Bool) → inside ≡ is_in places slot → inside ≡ true
+    → inside ≡ ((slots_of places ++ others) ∋ slot)
+set_is_among places others slot inside is true_here =
+    true_here ∙ sym (list_any-append (nat_eq slot) (slots_of places) others
+    ∙ or_left (slots_of places ∋ slot) (others ∋ slot) (slots_hold places slot ∙ sym is ∙ true_here))
+
+-- a slot whose place is not set is among them if it is one of the others
+pub clear_is_among : (places : List Bool) (others : List ℕ) (slot : ℕ) (inside other : Bool) → inside ≡ is_in places slot → inside ≡ false
+    → other ≡ (others ∋ slot) → other ≡ ((slots_of places ++ others) ∋ slot)
+clear_is_among places others slot inside other is false_here one =
+    one ∙ sym (list_any-append (nat_eq slot) (slots_of places) others
+    ∙ ap (λ b. b || (others ∋ slot)) (slots_hold places slot ∙ sym is ∙ false_here))
 
 -- a slot above all others becomes the last
 pub inserted_above_is_last : (places : List Bool) (slot : ℕ) → slot < length places → NoneFrom places slot

@@ -1,7 +1,8 @@
 //! What a collection kept.
 ghost use Rattle.std.specs.Prelude.{◌≡◌, ◌≤◌, ◌++◌, IfOk, take, length};
 ghost use Rattle.std.specs.List.{AllByRecursion};
-ghost use Rattle.jlr_sets.specs.SlotSets.{slots_of, IsSlotNumber, NoneFrom};
+ghost use Rattle.jlr_sets.specs.SlotSets.{slots_of, is_in, IsSlotNumber, NoneFrom};
+ghost use Rattle.jlr_machine.specs.Objects.{◌∋◌};
 
 use crate::copy::copy_slice;
 use jlr_sets::slots::SlotSet;
@@ -9,9 +10,12 @@ use jlr_types::Slot;
 use std::alloc::{AllocError, Global};
 use std::marker::Model;
 
-/// The slots that a collection kept, as a list. A list that rises, and of which bits take no more memory, lies here as
-/// a bit for each slot up to its last. Any other list can lie here too: an entry that was read may name any slots. So
-/// it is a set, and behind it the slots that it has no place for.
+/// No heap has more cells.
+const MOST_CELLS: u32 = 65_536;
+
+/// The slots that a collection kept, as a list. A list that rises lies here as a bit for each slot up to its last, at
+/// most as many as a heap has cells. Any other list can lie here too: an entry that was read may name any slots. So it
+/// is a set, and behind it the slots that it has no place for.
 #[derive(Drop)]
 pub struct KeptSlots {
     set: SlotSet,
@@ -60,6 +64,13 @@ impl KeptSlots {
         self.set.count() + self.strays.len()
     }
 
+    /// Whether the slot with this number is among them. Slots that do not lie as bits are gone through.
+    pub fn holds(&self, number: usize) -> bool
+        ensures { result ≡ (self.now ∋ number) }
+    {
+        is_inside(&self.set, number) || is_one_of(self.strays.as_slice(), number)
+    }
+
     /// What is true of each of the slots, for callers.
     pub fn in_range(&self)
         ensures { AllByRecursion IsSlotNumber self.now }
@@ -90,17 +101,30 @@ fn numbers_in_range(slots: &[Slot])
     }
 }
 
-/// For how many cells a set has to have places, so that its words take no more memory than the list: up to the last
-/// slot, or none.
-fn cells_for(slots: &[Slot]) -> u32 {
-    let Some(last) = slots.last() else {
-        return 0;
+/// Whether the slot with this number is in the set.
+fn is_inside(set: &SlotSet, number: usize) -> bool
+    ensures { result ≡ is_in set.now number }
+{
+    set.in_range();
+    let Ok(slot) = u32::try_from(number) else {
+        return false;
     };
-    let words = last.number() as usize / 64 + 1;
-    if words * 2 > slots.len() {
-        return 0;
+    set.has_place(slot) && set.contains(slot)
+}
+
+/// Whether one of the slots has this number.
+fn is_one_of(slots: &[Slot], number: usize) -> bool
+    ensures { result ≡ (slots.now ∋ number) }
+{
+    slots.iter().any(|slot| number == slot.number() as usize)
+}
+
+/// For how many cells a set has to have places: up to the last slot, as far as a heap has cells.
+fn cells_for(slots: &[Slot]) -> u32 {
+    match slots.last() {
+        Some(last) => last.number().saturating_add(1).min(MOST_CELLS),
+        None => 0,
     }
-    last.number().saturating_add(1)
 }
 
 /// Puts the slots into the empty set, as long as they rise and have places. Says how many.

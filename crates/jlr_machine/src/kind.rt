@@ -5,6 +5,10 @@ ghost use Rattle.jlr_machine.specs.Refusals.{cells_needed, is_end, listed_of};
 
 use crate::ask::Ask;
 use jlr_types::Refusal;
+use jlr_types::Refusal::{
+    Busy, Closed, Exhausted, HandlesFull, HeapFull, NamesFull, NoField, NoHandle, NoName,
+    NoSession, NotOut, Null, ResourcesFull, WouldWait, WrongKind, WrongType,
+};
 
 /// What is asked, in the order of the numbers that trace files give.
 #[derive(Clone, Copy, PartialEq, Eq, Debug)]
@@ -109,136 +113,92 @@ impl AskKind {
         ensures { result.now ≡ listed_of self }
     {
         match self {
-            AskKind::Join => &[Refusal::NoSession],
+            AskKind::Join => &[NoSession],
             AskKind::Leave
             | AskKind::Names
             | AskKind::Full
             | AskKind::Stat
             | AskKind::Notes
-            | AskKind::Faults => &[Refusal::NoSession, Refusal::Busy],
+            | AskKind::Faults => &[NoSession, Busy],
             AskKind::New | AskKind::Array | AskKind::MakeQueue | AskKind::MakeCleaner => &[
-                Refusal::NoSession,
-                Refusal::Busy,
-                Refusal::HandlesFull,
-                Refusal::HeapFull,
+                NoSession,
+                Busy,
+                HandlesFull,
+                HeapFull,
             ],
             AskKind::Put | AskKind::SetInt | AskKind::Int => &[
-                Refusal::NoSession,
-                Refusal::NoHandle,
-                Refusal::Null,
-                Refusal::WrongKind,
-                Refusal::NoField,
-                Refusal::WrongType,
-                Refusal::Busy,
+                NoSession, NoHandle, Null, WrongKind, NoField, WrongType, Busy,
             ],
             AskKind::Get => &[
-                Refusal::NoSession,
-                Refusal::NoHandle,
-                Refusal::Null,
-                Refusal::WrongKind,
-                Refusal::NoField,
-                Refusal::WrongType,
-                Refusal::Busy,
-                Refusal::HandlesFull,
+                NoSession,
+                NoHandle,
+                Null,
+                WrongKind,
+                NoField,
+                WrongType,
+                Busy,
+                HandlesFull,
             ],
-            AskKind::Dup => &[
-                Refusal::NoSession,
-                Refusal::NoHandle,
-                Refusal::Null,
-                Refusal::Busy,
-                Refusal::HandlesFull,
-            ],
-            AskKind::Drop => &[
-                Refusal::NoSession,
-                Refusal::NoHandle,
-                Refusal::Null,
-                Refusal::Busy,
-            ],
-            AskKind::Same => &[Refusal::NoSession, Refusal::NoHandle, Refusal::Busy],
+            AskKind::Dup => &[NoSession, NoHandle, Null, Busy, HandlesFull],
+            AskKind::Drop => &[NoSession, NoHandle, Null, Busy],
+            AskKind::Same => &[NoSession, NoHandle, Busy],
             AskKind::MakeRef => &[
-                Refusal::NoSession,
-                Refusal::NoHandle,
-                Refusal::Null,
-                Refusal::WrongKind,
-                Refusal::Busy,
-                Refusal::HandlesFull,
-                Refusal::HeapFull,
+                NoSession,
+                NoHandle,
+                Null,
+                WrongKind,
+                Busy,
+                HandlesFull,
+                HeapFull,
             ],
             AskKind::Deref | AskKind::Poll => &[
-                Refusal::NoSession,
-                Refusal::NoHandle,
-                Refusal::Null,
-                Refusal::WrongKind,
-                Refusal::Busy,
-                Refusal::HandlesFull,
+                NoSession,
+                NoHandle,
+                Null,
+                WrongKind,
+                Busy,
+                HandlesFull,
             ],
             AskKind::Refers
             | AskKind::Clear
             | AskKind::Enqueue
             | AskKind::Enqueued
             | AskKind::Clean
-            | AskKind::Close => &[
-                Refusal::NoSession,
-                Refusal::NoHandle,
-                Refusal::Null,
-                Refusal::WrongKind,
-                Refusal::Busy,
-            ],
+            | AskKind::Close => &[NoSession, NoHandle, Null, WrongKind, Busy],
             AskKind::Remove => &[
-                Refusal::NoSession,
-                Refusal::NoHandle,
-                Refusal::Null,
-                Refusal::WrongKind,
-                Refusal::Busy,
-                Refusal::WouldWait,
-                Refusal::HandlesFull,
+                NoSession,
+                NoHandle,
+                Null,
+                WrongKind,
+                Busy,
+                WouldWait,
+                HandlesFull,
             ],
             AskKind::Register => &[
-                Refusal::NoSession,
-                Refusal::NoHandle,
-                Refusal::Null,
-                Refusal::WrongKind,
-                Refusal::Busy,
-                Refusal::HandlesFull,
-                Refusal::Exhausted,
-                Refusal::HeapFull,
+                NoSession,
+                NoHandle,
+                Null,
+                WrongKind,
+                Busy,
+                HandlesFull,
+                Exhausted,
+                HeapFull,
             ],
             AskKind::Prepare => &[
-                Refusal::NoSession,
-                Refusal::Busy,
-                Refusal::HandlesFull,
-                Refusal::ResourcesFull,
-                Refusal::Exhausted,
-                Refusal::HeapFull,
+                NoSession,
+                Busy,
+                HandlesFull,
+                ResourcesFull,
+                Exhausted,
+                HeapFull,
             ],
-            AskKind::Opened | AskKind::CheckIn | AskKind::Finish => &[
-                Refusal::NoSession,
-                Refusal::NotOut,
-            ],
-            AskKind::CheckOut => &[
-                Refusal::NoSession,
-                Refusal::NoHandle,
-                Refusal::Null,
-                Refusal::WrongKind,
-                Refusal::Closed,
-                Refusal::Busy,
-            ],
-            AskKind::Bind => &[
-                Refusal::NoSession,
-                Refusal::NoHandle,
-                Refusal::Null,
-                Refusal::Busy,
-                Refusal::NamesFull,
-            ],
-            AskKind::Find => &[
-                Refusal::NoSession,
-                Refusal::NoName,
-                Refusal::Busy,
-                Refusal::HandlesFull,
-            ],
-            AskKind::Unbind => &[Refusal::NoSession, Refusal::NoName, Refusal::Busy],
+            AskKind::Opened | AskKind::CheckIn | AskKind::Finish => &[NoSession, NotOut],
+            AskKind::CheckOut => &[NoSession, NoHandle, Null, WrongKind, Closed, Busy],
+            AskKind::Bind => &[NoSession, NoHandle, Null, Busy, NamesFull],
+            AskKind::Find => &[NoSession, NoName, Busy, HandlesFull],
+            AskKind::Unbind => &[NoSession, NoName, Busy],
             AskKind::HandOver | AskKind::Begin | AskKind::Collect | AskKind::Abandon => &[],
-            AskKind::TakeUp => &[Refusal::Busy],
+            AskKind::TakeUp => &[Busy],
         }
     }
 }

@@ -55,14 +55,14 @@ fn follow_collecting(
 {
     let leaving = make_leaving(alloc, machine, collected)?;
     if is_refusal(answer) {
-        leave_in(alloc, machine, leaving);
+        leave_in(alloc, machine, &collected.kept, leaving);
         return Ok(());
     }
     let Ok(ready) = ready_for(alloc, machine, &kept.ask, answer) else {
         drop(leaving);
         return Err(AllocError);
     };
-    leave_in(alloc, machine, leaving);
+    leave_in(alloc, machine, &collected.kept, leaving);
     let fresh = kept.choice.fresh().as_slice();
     make_asked(alloc, machine, &kept.ask, answer, fresh, ready);
     Ok(())

@@ -12,6 +12,7 @@ use jlr_machine::copies::copy_machine;
 use jlr_machine::copy::copy_slice;
 use jlr_machine::entry::{Chosen, Collected};
 use jlr_machine::items::Items;
+use jlr_machine::kept::KeptSlots;
 use jlr_machine::machine::Machine;
 use jlr_machine::object::{CleanState, Cleanable, Object, RefState, Reference};
 use jlr_machine::table::Table;
@@ -20,19 +21,19 @@ use std::alloc::{AllocError, Global};
 use std::mem::replace;
 
 /// A referent that is kept.
-fn kept_referent(kept: &SlotList, referent: Option<Slot>) -> Option<Slot>
+fn kept_referent(kept: &KeptSlots, referent: Option<Slot>) -> Option<Slot>
     ensures { result ≡ referent_if_kept kept.now referent }
 {
     let Some(slot) = referent else {
         return None;
     };
-    if kept.holds(slot) {
+    if kept.holds(slot.number() as usize) {
         return Some(slot);
     }
     None
 }
 
-fn left_reference(kept: &SlotList, listed: bool, reference: &Reference) -> Reference
+fn left_reference(kept: &KeptSlots, listed: bool, reference: &Reference) -> Reference
     ensures { ReferenceObject result ≡ left_of kept.now listed (ReferenceObject reference.now) }
 {
     let state = if listed {
@@ -48,7 +49,7 @@ fn left_reference(kept: &SlotList, listed: bool, reference: &Reference) -> Refer
     }
 }
 
-fn left_cleanable(kept: &SlotList, listed: bool, cleanable: &Cleanable) -> Cleanable
+fn left_cleanable(kept: &KeptSlots, listed: bool, cleanable: &Cleanable) -> Cleanable
     ensures { CleanableObject result ≡ left_of kept.now listed (CleanableObject cleanable.now) }
 {
     let state = if listed {
@@ -65,7 +66,7 @@ fn left_cleanable(kept: &SlotList, listed: bool, cleanable: &Cleanable) -> Clean
 }
 
 /// Makes of a kept object what the collection leaves, which put it behind the pending list or not.
-fn leave_object(kept: &SlotList, listed: bool, object: &mut Object)
+fn leave_object(kept: &KeptSlots, listed: bool, object: &mut Object)
     ensures { object.new ≡ left_of kept.now listed object.old }
 {
     match object {
@@ -75,11 +76,11 @@ fn leave_object(kept: &SlotList, listed: bool, object: &mut Object)
     }
 }
 
-fn leave_place(kept: &SlotList, pending: &SlotList, number: usize, place: &mut Option<Object>)
+fn leave_place(kept: &KeptSlots, pending: &SlotList, number: usize, place: &mut Option<Object>)
     ensures { place.new ≡ cond (kept.now ∋ number) (option_map (left_of kept.now (pending.now ∋ number)) place.old)
         None }
 {
-    if !kept.has_number(number) {
+    if !kept.holds(number) {
         *place = None;
         return;
     }
@@ -88,7 +89,7 @@ fn leave_place(kept: &SlotList, pending: &SlotList, number: usize, place: &mut O
     }
 }
 
-fn leave_places(kept: &SlotList, pending: &SlotList, places: &mut [Option<Object>])
+fn leave_places(kept: &KeptSlots, pending: &SlotList, places: &mut [Option<Object>])
     ensures { places.new ≡ places_left kept.now pending.now 0 places.old }
 {
     for i in 0..places.len() {
@@ -96,7 +97,7 @@ fn leave_places(kept: &SlotList, pending: &SlotList, places: &mut [Option<Object
     }
 }
 
-fn objects_left(kept: &SlotList, pending: &SlotList, objects: Table<Object>) -> Table<Object>
+fn objects_left(kept: &KeptSlots, pending: &SlotList, objects: Table<Object>) -> Table<Object>
     ensures { result ≡ places_left kept.now pending.now 0 objects }
 {
     let mut places = objects.into_vec();
@@ -119,17 +120,10 @@ fn list_of(alloc: Global, cells: usize, slots: &[Slot]) -> Result<SlotList, Allo
     SlotList::from_vec(alloc, cells, copy_slice(alloc, slots)?)
 }
 
-fn kept_by(alloc: Global, cells: usize, c: &Collected) -> Result<SlotList, AllocError>
-    ensures { IfOk result (λ l. l ≡ c.now.kept) }
-{
-    SlotList::from_vec(alloc, cells, c.kept.to_vec(alloc)?)
-}
-
-/// What a collection leaves, made before anything changes: what it kept, what it put behind the pending list, and that
-/// list then.
+/// What a collection takes memory for, made before anything changes: what it put behind the pending list, and that list
+/// then.
 #[derive(Drop)]
 pub struct Leaving {
-    kept: SlotList,
     listed: SlotList,
     pending: Items<Slot>,
 }
@@ -139,42 +133,29 @@ pub struct Leaving {
 /// # Errors
 /// `AllocError` where there is no memory.
 pub fn make_leaving(alloc: Global, machine: &Machine, c: &Collected) -> Result<Leaving, AllocError>
-    ensures { IfOk result (λ l. (l.kept ≡ c.now.kept) × (l.listed ≡ c.now.pending)
-        × (l.pending ≡ machine.now.pending ++ c.now.pending)) }
+    ensures { IfOk result (λ l. (l.listed ≡ c.now.pending) × (l.pending ≡ machine.now.pending ++ c.now.pending)) }
 {
     let cells = machine.objects.len();
     let pending = pending_with(alloc, machine.pending.as_slice(), c.pending.as_slice())?;
-    let Ok(kept) = kept_by(alloc, cells, c) else {
+    let Ok(listed) = list_of(alloc, cells, c.pending.as_slice()) else {
         drop(pending);
         return Err(AllocError);
     };
-    let Ok(listed) = list_of(alloc, cells, c.pending.as_slice()) else {
-        drop((pending, kept));
-        return Err(AllocError);
-    };
-    Ok(Leaving {
-        kept,
-        listed,
-        pending,
-    })
+    Ok(Leaving { listed, pending })
 }
 
-/// Collects, where so much is kept and listed. Takes no memory.
-pub fn leave_in(alloc: Global, machine: &mut Machine, leaving: Leaving)
+/// Collects, where these are kept and so much is listed. Takes no memory.
+pub fn leave_in(alloc: Global, machine: &mut Machine, kept: &KeptSlots, leaving: Leaving)
     ensures { machine.new ≡ record machine.old {
-      objects = places_left leaving.kept leaving.listed 0 machine.old.objects;
+      objects = places_left kept.now leaving.listed 0 machine.old.objects;
       pending = leaving.pending;
       cycle_open = false;
       seen = [];
     } }
 {
-    let Leaving {
-        kept,
-        listed,
-        pending,
-    } = leaving;
+    let Leaving { listed, pending } = leaving;
     let objects = replace(&mut machine.objects, Table::from_vec(Vec::new(alloc)));
-    machine.objects = objects_left(&kept, &listed, objects);
+    machine.objects = objects_left(kept, &listed, objects);
     machine.pending = pending;
     machine.cycle_open = false;
     machine.seen = Items::new(alloc);
@@ -187,7 +168,7 @@ fn collected(alloc: Global, machine: Machine, c: &Collected) -> Result<Machine, 
     let mut next = machine;
     match make_leaving(alloc, &next, c) {
         Ok(leaving) => {
-            leave_in(alloc, &mut next, leaving);
+            leave_in(alloc, &mut next, &c.kept, leaving);
             Ok(next)
         }
         Err(fault) => {

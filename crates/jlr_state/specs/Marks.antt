@@ -5,7 +5,9 @@ use Rattle.jlr_types.specs.declared.Progress.{Progress}
 use Rattle.jlr_types.specs.declared.Progress.TheVariants.{Idle}
 use Rattle.jlr_machine.specs.declared.machine.Machine.{Machine}
 use Rattle.jlr_machine.specs.declared.ask.Ask.{Ask}
-use Rattle.jlr_machine.specs.declared.ask.Ask.TheVariants.{Begin}
+use Rattle.jlr_machine.specs.declared.ask.Ask.TheVariants.{Begin, Full}
+use Rattle.jlr_machine.specs.declared.ask.Answer.{Answer}
+use Rattle.jlr_machine.specs.declared.ask.Answer.TheVariants.{Done}
 use Rattle.jlr_machine.specs.Chosen.{Chosen}
 use Rattle.jlr_machine.specs.Objects.{Heap, ◌∈◌}
 use Rattle.jlr_machine.specs.Edges.{roots}
@@ -99,6 +101,11 @@ AnswersPiece None soft_age clock m old condemned reply new left = Unit {0}
 AnswersPiece (Some budget) soft_age clock m old condemned reply new left = (progress : Progress)
     × (reply ≡ Marked progress)
     × MarksPiece budget soft_age clock m old condemned progress new left
+
+-- a full collection that was asked for leaves no cell condemned
+abbrev pub SweepsAll : Option Ask → Option Answer → ℕ → Type 0
+SweepsAll (Some (Full by mode)) (Some Done) condemned = condemned ≡ 0
+SweepsAll ask answer condemned = Unit {0}
 
 -- an event that is no piece of marking, and opens no cycle, blackens just the objects that it makes, where a cycle is
 -- open afterwards

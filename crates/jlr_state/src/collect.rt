@@ -1,5 +1,5 @@
 //! The full collections that an ask makes: one that is asked for, and one that makes room for a new object.
-ghost use Rattle.std.specs.Prelude.{◌≡◌, ◌≤◌, ◌++◌, ℕ, None, length, option_to_list, IfOk, IfErr};
+ghost use Rattle.std.specs.Prelude.{◌≡◌, ◌≤◌, ◌++◌, ℕ, None, Some, length, option_to_list, IfOk, IfErr};
 ghost use Rattle.jlr_machine.specs.Objects.{◌∈◌, any_referent};
 ghost use Rattle.jlr_machine.specs.Edges.{slots_in, strong_edges};
 ghost use Rattle.jlr_machine.specs.declared.object.Contents.TheVariants.{Elements as ElementsOf};
@@ -16,7 +16,7 @@ ghost use Rattle.jlr_barrier.specs.Graphs.{counted};
 ghost use Rattle.jlr_marker.specs.Following.{keeps};
 ghost use Rattle.jlr_state.specs.Policy.{KeepsIn};
 ghost use Rattle.jlr_state.specs.State.{Meets, answer_of};
-ghost use Rattle.jlr_state.specs.Marks.{BlackensMade, MarksNew};
+ghost use Rattle.jlr_state.specs.Marks.{BlackensMade, MarksNew, SweepsAll};
 
 use crate::state::State;
 use jlr_cells::{Elements, Shape};
@@ -41,6 +41,7 @@ impl<R> State<R> {
         ensures cells { length self.new.heap.graph.objects ≡ length self.old.heap.graph.objects }
         ensures age { self.new.soft_age ≡ self.old.soft_age }
         ensures cleaner { self.new.cleaner ≡ self.old.cleaner }
+        ensures swept { self.new.heap.condemned ≡ 0 }
     {
         let policy = Policy::new(self.soft_age, mode);
         jlr_sweep::full(&mut self.heap, &policy, choice);
@@ -135,6 +136,7 @@ impl<R> State<R> {
             choice.new.chosen }
         ensures marks { MarksNew (machine_of self.old) self.old.heap.marking choice.new.chosen (machine_of self.new)
             self.new.heap.marking }
+        ensures swept { SweepsAll (Some (Ask.Full by mode)) (Some (answer_of result)) self.new.heap.condemned }
     {
         self.check_session(by)?;
         self.check_no_call(by)?;

@@ -41,6 +41,7 @@ returns-clause-step g c =
       begins = λ none still. no_some Begin none;
       blackens = search rules;
       collects = search rules;
+      swept = tt;
       policy = search rules;
       age = search rules;
       clock = search rules;

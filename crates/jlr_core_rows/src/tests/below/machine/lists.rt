@@ -93,12 +93,23 @@ fn is_name(bytes: &[u8]) -> bool {
     }
 }
 
-// Whether a list comes out as it went in.
+// Whether a list comes out as it went in, and holds just what went in.
 fn can_be_kept(alloc: Global, numbers: &[u32]) -> Result<bool, AllocError> {
     let slots = slots(alloc, numbers)?;
     let kept = KeptSlots::from_slice(alloc, slots.as_slice())?;
     let list = kept.to_vec(alloc)?;
-    Ok(kept.len() == numbers.len() && list.as_slice() == slots.as_slice())
+    let same = kept.len() == numbers.len() && list.as_slice() == slots.as_slice();
+    Ok(same && holds_just(&kept, numbers))
+}
+
+fn holds_just(kept: &KeptSlots, numbers: &[u32]) -> bool {
+    for number in 0..70_000u32 {
+        let is_held = numbers.iter().any(|&held| held == number);
+        if kept.holds(number as usize) != is_held {
+            return false;
+        }
+    }
+    numbers.iter().all(|&number| kept.holds(number as usize)) && !kept.holds(4_294_967_296)
 }
 
 #[test]
@@ -136,13 +147,14 @@ fn texts_hold_what_fits(rt: HostRuntime) -> Result<(), Fail> {
     Ok(())
 }
 
-/// Lists of which bits take less memory than the list, and others.
+/// Lists that rise, up to where a heap may have cells or beyond, and others.
 #[test]
 fn any_list_can_be_what_was_kept(rt: HostRuntime) -> Result<(), Fail> {
     for list in [
         [0u32, 1, 2, 63].as_slice(),
         [0, 1, 63, 64].as_slice(),
         [5, 3, 4, 9].as_slice(),
+        [7, 65_535, 65_536, 69_999].as_slice(),
         [0, 4_294_967_295].as_slice(),
         [].as_slice(),
     ] {
