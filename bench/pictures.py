@@ -3,12 +3,14 @@
 
     bench/pictures.py collections [--program crates/refheap/out/refheap] [--cells 16384] [--rounds 31] [--told FILE] > docs/collections.svg
     bench/pictures.py latency [--program crates/refheap/out/refheap] [--requests 40000] > docs/latency.svg
+    bench/pictures.py beside [--program crates/refheap/out/refheap] [--told FILE] > docs/beside.svg
 
 `collections` runs bench/collect.py with 100, 50 and 10 in a hundred objects live, and draws the median of the ratios to the plain
 mark-sweep: below 1 refheap is the faster one. `latency` starts a server with one client that makes and drops objects, each request
 after the reply to the one before, and draws how long each took; lines show where a background cycle is due (a quarter of the cells was
 taken) and where the history is cut (it holds as many entries as `--trace` says). What was measured stands in the picture as a comment;
 with `--told` the first picture is drawn from a file of such lines (`live 50: chain: .. ratio 1.08`).
+`beside` draws the distributions of bench/latency.py, a row for each of what a client is beside; with `--told` those that a file of its lines has.
 """
 import argparse
 import os
@@ -23,6 +25,7 @@ from math import log10
 
 HERE = os.path.dirname(os.path.abspath(__file__))
 LINE = re.compile(r"live (\d+): (\w+): .*?ratio ([\d.]+)")
+BESIDE = re.compile(r"(\w+, [\d,]+ cells), beside (.+): ([\d., ]+) us")
 SHARES = (100, 50, 10)
 COLOURS = {"chain": "#33658a", "tree": "#55a630", "graph": "#f6ae2d"}
 STYLE = "<style>text{font:12px sans-serif;fill:#333}.heading{font-weight:bold}.small{font-size:10px}</style>"
@@ -151,9 +154,41 @@ def latency(times, cells, trace):
     return svg(width, height, parts, f"mean {statistics.mean(times):.1f} us, {told}, the longest {in_order[-1]:.0f} us; {cells} cells, cut at {trace} entries")
 
 
+# ---- Beside others
+
+
+def beside(said):
+    """A part for each heap, and in it a row for each of what a client is beside: a line from the median to the longest, a mark at 99 and 99.9 in 100."""
+    heaps = {}
+    for match in BESIDE.finditer("\n".join(said)):
+        heaps.setdefault(match[1], []).append((match[2], [float(took) for took in match[3].split(", ")]))
+    width, left, top = 760, 160, 56
+    height = top + sum(34 + 16 * len(rows) for rows in heaps.values())
+
+    def along(took):
+        return left + (log10(max(took, 5)) - log10(5)) * (width - left - 30) / (5 - log10(5))
+
+    parts = [
+        text(20, 20, "How long a request of one client takes beside others", kind="heading"),
+        text(20, 36, "dot: half; short marks: 99 and 99.9 in 100; end of the line: the longest", kind="small"),
+    ]
+    y = top
+    for heap, rows in heaps.items():
+        parts.append(text(20, y + 14, heap, kind="heading"))
+        for mark in (10, 100, 1_000, 10_000, 100_000):
+            parts += [line(along(mark), y + 18, along(mark), y + 20 + 16 * len(rows), "#ddd"), text(along(mark), y + 14, f"{mark:,} us", "middle", "small")]
+        for place, (name, (half, most, nearly, longest)) in enumerate(rows):
+            middle = y + 28 + 16 * place
+            parts += [text(left - 8, middle + 4, name, "end", "small"), line(along(half), middle, along(longest), middle, "#33658a")]
+            parts += [line(along(took), middle - 4, along(took), middle + 4, "#33658a") for took in (most, nearly)]
+            parts.append(f'<circle cx="{along(half):.1f}" cy="{middle}" r="3" fill="#33658a"/>')
+        y += 34 + 16 * len(rows)
+    return svg(width, height, parts, "; ".join(row.replace("--", "") for row in said))
+
+
 def main():
     arguments = argparse.ArgumentParser(description=__doc__, formatter_class=argparse.RawDescriptionHelpFormatter)
-    arguments.add_argument("picture", choices=("collections", "latency"))
+    arguments.add_argument("picture", choices=("collections", "latency", "beside"))
     arguments.add_argument("--program", default=os.path.join(HERE, "..", "crates", "refheap", "out", "refheap"))
     arguments.add_argument("--cells", type=int)
     arguments.add_argument("--rounds", type=int, default=31)
@@ -169,6 +204,14 @@ def main():
         else:
             said = measured(given.program, cells, given.rounds)
         print(collections(said, cells))
+    elif given.picture == "beside":
+        if given.told:
+            with open(given.told, encoding="utf-8") as told:
+                said = told.read().splitlines()
+        else:
+            words = [sys.executable, os.path.join(HERE, "latency.py"), given.program]
+            said = subprocess.run(words, check=True, capture_output=True, text=True).stdout.splitlines()
+        print(beside(said))
     else:
         cells = given.cells or 16384
         print(latency(request_times(given.program, cells, given.trace, given.requests), cells, given.trace))
