@@ -1,6 +1,5 @@
 //! The names of asks: those of the commands that ask them.
-use jlr_machine::ask::{Ask, FullMode};
-use jlr_machine::kind::AskKind;
+use jlr_machine::ask::{Ask, AskKind, FullMode};
 use jlr_types::RefKind;
 
 /// The names, in the order of the table. What no command asks by itself has the name of its ask.

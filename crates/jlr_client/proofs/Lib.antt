@@ -1,2 +1,2 @@
-pub mod Same
+pub mod Forms
 pub mod Saying

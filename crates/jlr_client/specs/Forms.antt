@@ -1,9 +1,14 @@
--- The forms of commands, their operands, and which lines are of a form.
-use Rattle.std.specs.Prelude.{◌≡◌, ◌<◌, ◌≤◌, ◌^◌, ℕ, ℤ, List, [], ◌∷◌, length, decimal, codes, FitsSigned, ⊤, ◌↔◌}
+-- The forms of commands, their operands, what they may be refused, and which lines are of a form.
+use Rattle.std.specs.Prelude.{◌≡◌, ◌<◌, ◌≤◌, ◌^◌, ℕ, ℤ, List, [], ◌∷◌, Option, Some, None, length, decimal, codes}
+use Rattle.std.specs.Prelude.{FitsSigned, ⊤, ◌↔◌}
 use Rattle.std.specs.List.{join_with_byte}
 use Rattle.std.specs.Int.{w64}
 use Rattle.std.specs.Fmt.{signed_decimal}
 use Rattle.jlr_types.specs.declared.FieldKind.{FieldKind}
+use Rattle.jlr_types.specs.declared.Refusal.{Refusal}
+use Rattle.jlr_machine.specs.declared.ask.AskKind.{AskKind}
+use Rattle.jlr_machine.specs.declared.ask.AskKind.TheVariants as to
+use Rattle.jlr_machine.specs.Refusals.{listed_of}
 use Rattle.jlr_device.specs.declared.device.Mode.{Mode as ModeOf}
 use Rattle.jlr_wire.specs.Texts.{IsPathText, IsNameText, AreDigits}
 use Rattle.jlr_wire.specs.Commands.{layout, mode_letter, IsCommand}
@@ -98,6 +103,55 @@ operands_of form.Stat = []
 operands_of form.Notes = []
 operands_of form.Faults = []
 operands_of form.Bye = []
+
+-- what a command of this form asks first; `bye` asks nothing
+abbrev pub first_ask : Form → Option AskKind
+first_ask form.New = Some to.New
+first_ask form.Array = Some to.Array
+first_ask form.Put = Some to.Put
+first_ask form.Get = Some to.Get
+first_ask form.SetInt = Some to.SetInt
+first_ask form.Int = Some to.Int
+first_ask form.Dup = Some to.Dup
+first_ask form.Drop = Some to.Drop
+first_ask form.Same = Some to.Same
+first_ask form.Soft = Some to.MakeRef
+first_ask form.Weak = Some to.MakeRef
+first_ask form.Phantom = Some to.MakeRef
+first_ask form.Deref = Some to.Deref
+first_ask form.Refers = Some to.Refers
+first_ask form.Clear = Some to.Clear
+first_ask form.Enqueue = Some to.Enqueue
+first_ask form.Enqueued = Some to.Enqueued
+first_ask form.Queue = Some to.MakeQueue
+first_ask form.Poll = Some to.Poll
+first_ask form.Remove = Some to.Remove
+first_ask form.Cleaner = Some to.MakeCleaner
+first_ask form.Register = Some to.Register
+first_ask form.Clean = Some to.Clean
+first_ask form.Open = Some to.Prepare
+first_ask form.Connect = Some to.Prepare
+first_ask form.Read = Some to.CheckOut
+first_ask form.Write = Some to.CheckOut
+first_ask form.Close = Some to.Close
+first_ask form.Bind = Some to.Bind
+first_ask form.Find = Some to.Find
+first_ask form.Unbind = Some to.Unbind
+first_ask form.Names = Some to.Names
+first_ask form.Gc = Some to.Full
+first_ask form.GcSoft = Some to.Full
+first_ask form.Stat = Some to.Stat
+first_ask form.Notes = Some to.Notes
+first_ask form.Faults = Some to.Faults
+first_ask form.Bye = None
+
+-- what the machine's table lists for it
+abbrev pub refusals_of_kind : Option AskKind → List Refusal
+refusals_of_kind None = []
+refusals_of_kind (Some kind) = listed_of kind
+
+abbrev pub refusals_of : Form → List Refusal
+refusals_of f = refusals_of_kind (first_ask f)
 
 -- a handle in decimal
 abbrev pub IsHandle : List ℕ → Type 0

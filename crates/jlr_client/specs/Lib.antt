@@ -1,5 +1,4 @@
 pub mod Typing
 pub mod Forms
-pub mod Refusals
 pub mod Lines
 pub mod Rows

@@ -6,6 +6,5 @@
 pub mod form;
 pub mod law;
 pub mod operand;
-pub mod page;
 pub mod refusal;
 pub mod table;

@@ -13,7 +13,7 @@ use Rattle.jlr_trace_fields.specs.declared.fault.Fault.TheVariants.{Range}
 use Rattle.jlr_trace_fields.specs.declared.version.Version.{Version}
 use Rattle.jlr_trace_fields.specs.declared.version.Version.TheVariants.{One, Two}
 use Rattle.jlr_machine.specs.Names.{is_name_byte}
-use Rattle.jlr_machine.specs.AskKinds.{ask_kinds}
+use Rattle.jlr_machine.specs.Refusals.{ask_kinds}
 use Rattle.jlr_trace_fields.specs.Items.{items_at}
 use Rattle.jlr_trace_fields.specs.Tables.{ref_kinds, faults}
 use Rattle.jlr_trace_entries.specs.Asks.{outcomes_by_number, modes, kind_read, layout_read, call_outcome_behind, call_outcome_read}

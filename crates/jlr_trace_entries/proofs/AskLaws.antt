@@ -33,9 +33,9 @@ use Rattle.jlr_trace_fields.proofs.Products.{then_takes, made_takes, one_takes, 
 use Rattle.jlr_trace_fields.proofs.Products.{two_again, three_again, four_again}
 use Rattle.jlr_trace_fields.proofs.TableLaws.{ref_kind, fault}
 use Rattle.jlr_trace_fields.proofs.Records.{name}
-use Rattle.jlr_machine.specs.declared.kind.AskKind.{AskKind}
-use Rattle.jlr_machine.specs.AskKinds.{ask_kinds}
-use Rattle.jlr_machine.specs.declared.kind.AskKind.TheVariants as to
+use Rattle.jlr_machine.specs.declared.ask.AskKind.{AskKind}
+use Rattle.jlr_machine.specs.Refusals.{ask_kinds}
+use Rattle.jlr_machine.specs.declared.ask.AskKind.TheVariants as to
 use Rattle.jlr_trace_entries.specs.Asks.{outcomes_by_number, outcome_number, modes, mode_number, spelled_kind, spelled_layout, kind_read}
 use Rattle.jlr_trace_entries.specs.Asks.{layout_read}
 use Rattle.jlr_trace_entries.specs.Asks.{spelled_call_outcome, CallOutcomeFits, call_outcome_behind, call_outcome_read, spelled_field}

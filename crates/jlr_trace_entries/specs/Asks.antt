@@ -32,9 +32,9 @@ use Rattle.jlr_machine.specs.Names.{is_name_byte}
 use Rattle.jlr_trace_fields.specs.Items.{items_at}
 use Rattle.jlr_trace_fields.specs.Tables.{ref_kinds, ref_kind_number, faults, fault_number}
 use Rattle.jlr_trace_fields.specs.Records.{NameFits}
-use Rattle.jlr_machine.specs.declared.kind.AskKind.{AskKind}
-use Rattle.jlr_machine.specs.AskKinds.{ask_kinds}
-use Rattle.jlr_machine.specs.declared.kind.AskKind.TheVariants as to
+use Rattle.jlr_machine.specs.declared.ask.AskKind.{AskKind}
+use Rattle.jlr_machine.specs.Refusals.{ask_kinds}
+use Rattle.jlr_machine.specs.declared.ask.AskKind.TheVariants as to
 
 -- ---- Tables
 

@@ -5,8 +5,7 @@ ghost use Rattle.jlr_trace_entries.specs.Entries.{entry_read, made_entry, spelle
 
 use crate::answers::reading::take_answer;
 use crate::answers::writing::put_answer;
-use crate::asks::reading::take_ask;
-use crate::asks::writing::put_ask;
+use crate::asks::ask::{put_ask, take_ask};
 use crate::choice::{choice_at, put_choice};
 use jlr_machine::ask::{Answer, Ask};
 use jlr_machine::entry::{Chosen, Entry};

@@ -1,6 +1,6 @@
 -- A line is a command exactly where the parts between its spaces are the command's fields.
 use Rattle.std.proofs.Common.{◌≡◌, ◌≢◌, ℕ, zero, suc, ◌^◌, ◌<◌, ◌≤◌, Bool, true, ◌&&◌, not, eqb, List, [], ◌∷◌, map, length, get_or, Some}
-use Rattle.std.proofs.Common.{refl, sym, ap, ◌∙◌, arith, rules, inl, inr}
+use Rattle.std.proofs.Common.{refl, sym, ap, ◌∙◌, arith, rules, ◌⊎◌, inl, inr}
 use Rattle.std.specs.Prelude.{codes, decimal, ℤ, pos, negsuc, FitsSigned}
 use Rattle.std.specs.Int.{w64}
 use Rattle.std.specs.Fmt.{signed_decimal}
@@ -151,6 +151,34 @@ apart Stat fields f = rw f (one _ (word (codes "stat") refl))
 apart Notes fields f = rw f (one _ (word (codes "notes") refl))
 apart Faults fields f = rw f (one _ (word (codes "faults") refl))
 apart Bye fields f = rw f (one _ (word (codes "bye") refl))
+
+-- the fields of a command are always the same, but for the digits of `write`
+pub one_form : (c : Command) (xs ys : List (List ℕ)) → Fields c xs → Fields c ys → (xs ≡ ys)
+    ⊎ ((a : ℕ) × (bytes : List ℕ) × (c ≡ Write a bytes))
+one_form (Put a b c) xs ys f g = inl (f.3 ∙ sym g.3)
+one_form (Get a b) xs ys f g = inl (f.2 ∙ sym g.2)
+one_form (Array n) xs ys f g = inl (f.2 ∙ sym g.2)
+one_form (SetInt a b c) xs ys f g = inl (f.3 ∙ sym g.3)
+one_form (Int a b) xs ys f g = inl (f.2 ∙ sym g.2)
+one_form (Same a b) xs ys f g = inl (f.2 ∙ sym g.2)
+one_form (Soft a b) xs ys f g = inl (f.2 ∙ sym g.2)
+one_form (Weak a b) xs ys f g = inl (f.2 ∙ sym g.2)
+one_form (Phantom a b) xs ys f g = inl (f.2 ∙ sym g.2)
+one_form (Refers a b) xs ys f g = inl (f.2 ∙ sym g.2)
+one_form Queue xs ys f g = inl (f ∙ sym g)
+one_form Cleaner xs ys f g = inl (f ∙ sym g)
+one_form (Register a b c) xs ys f g = inl (f.3 ∙ sym g.3)
+one_form (Read a b) xs ys f g = inl (f.3 ∙ sym g.3)
+one_form (Write a b) xs ys f g = inr (a, b, refl)
+one_form (Bind a b) xs ys f g = inl (f.2 ∙ sym g.2)
+one_form Names xs ys f g = inl (f ∙ sym g)
+one_form (Full Policy) xs ys f g = inl (f ∙ sym g)
+one_form (Full ClearAll) xs ys f g = inl (f ∙ sym g)
+one_form Stat xs ys f g = inl (f ∙ sym g)
+one_form Notes xs ys f g = inl (f ∙ sym g)
+one_form Faults xs ys f g = inl (f ∙ sym g)
+one_form Bye xs ys f g = inl (f ∙ sym g)
+one_form command xs ys f g = inl (f.1 ∙ sym g.1)
 
 -- the parts of a command's line are its fields
 pub parts_are : (line : List ℕ) (c : Command) (h : IsCommand line c) → (slice_split is_space line ≡ h.fields) × (length h.fields ≤ 4)

@@ -1,6 +1,6 @@
 -- A command has one spelling, but for the case of hexadecimal digits.
 use Rattle.std.proofs.Common.{◌≡◌, ℕ, zero, suc, ◌+◌, ◌*◌, ◌/◌, ◌%◌, ◌<◌, ◌==◌, Bool, true, false, ◌&&◌, List, [], ◌∷◌, ◌++◌, map}
-use Rattle.std.proofs.Common.{slice_index, Option, Some, None, Result, Ok, Err, refl, sym, ap, subst, ◌∙◌, arith, ◌⊎◌, inl, inr}
+use Rattle.std.proofs.Common.{slice_index, Option, Some, None, Result, Ok, Err, refl, sym, ap, subst, ◌∙◌, arith, inl, inr}
 use Rattle.std.specs.Prelude.{codes, decimal}
 use Rattle.std.specs.List.{join_with_byte}
 use Rattle.std.specs.Char.{to_ascii_lowercase}
@@ -13,15 +13,11 @@ use Rattle.hex.specs.Hex.{lower_digits, ◌>>=◌}
 use Rattle.hex.specs.declared.error.FromHexError.{FromHexError}
 use Rattle.hex.proofs.HexLemmas.{decode_of-ok, decode_of-even}
 use Rattle.jlr_wire.proofs.Options.{and_parts}
-use Rattle.jlr_wire.proofs.Exact.{command_is_read}
-use Rattle.jlr_wire.specs.Commands.{Fields, IsCommand}
+use Rattle.jlr_wire.proofs.Exact.{command_is_read, one_form}
+use Rattle.jlr_wire.specs.Commands.{IsCommand}
 use Rattle.jlr_wire.specs.Spelling.{has_digits}
-use Rattle.jlr_machine.specs.declared.ask.FullMode.TheVariants.{Policy, ClearAll}
 use Rattle.jlr_wire.specs.declared.command.Command.{Command}
-use Rattle.jlr_wire.specs.declared.command.Command.TheVariants.{Put, Get, SetInt, Int, Same, Soft, Weak, Phantom}
-use Rattle.jlr_wire.specs.declared.command.Command.TheVariants.{Refers, Queue, Cleaner, Register}
-use Rattle.jlr_wire.specs.declared.command.Command.TheVariants.{Read, Write, Bind, Names, Full}
-use Rattle.jlr_wire.specs.declared.command.Command.TheVariants.{Stat, Notes, Faults, Bye, Array}
+use Rattle.jlr_wire.specs.declared.command.Command.TheVariants.{Write}
 
 -- ---- digits in small letters
 
@@ -95,33 +91,6 @@ small_join w h x y e =
     ∙ ap (λ t. map to_ascii_lowercase h ++ 32 ∷ t) e
     ∙ sym (map-append to_ascii_lowercase h (32 ∷ y)))
     ∙ sym (map-append to_ascii_lowercase w (32 ∷ (h ++ 32 ∷ y)))
-
-one_form : (c : Command) (xs ys : List (List ℕ)) → Fields c xs → Fields c ys → (xs ≡ ys)
-    ⊎ ((a : ℕ) × (bytes : List ℕ) × (c ≡ Write a bytes))
-one_form (Put a b c) xs ys f g = inl (f.3 ∙ sym g.3)
-one_form (Get a b) xs ys f g = inl (f.2 ∙ sym g.2)
-one_form (Array n) xs ys f g = inl (f.2 ∙ sym g.2)
-one_form (SetInt a b c) xs ys f g = inl (f.3 ∙ sym g.3)
-one_form (Int a b) xs ys f g = inl (f.2 ∙ sym g.2)
-one_form (Same a b) xs ys f g = inl (f.2 ∙ sym g.2)
-one_form (Soft a b) xs ys f g = inl (f.2 ∙ sym g.2)
-one_form (Weak a b) xs ys f g = inl (f.2 ∙ sym g.2)
-one_form (Phantom a b) xs ys f g = inl (f.2 ∙ sym g.2)
-one_form (Refers a b) xs ys f g = inl (f.2 ∙ sym g.2)
-one_form Queue xs ys f g = inl (f ∙ sym g)
-one_form Cleaner xs ys f g = inl (f ∙ sym g)
-one_form (Register a b c) xs ys f g = inl (f.3 ∙ sym g.3)
-one_form (Read a b) xs ys f g = inl (f.3 ∙ sym g.3)
-one_form (Write a b) xs ys f g = inr (a, b, refl)
-one_form (Bind a b) xs ys f g = inl (f.2 ∙ sym g.2)
-one_form Names xs ys f g = inl (f ∙ sym g)
-one_form (Full Policy) xs ys f g = inl (f ∙ sym g)
-one_form (Full ClearAll) xs ys f g = inl (f ∙ sym g)
-one_form Stat xs ys f g = inl (f ∙ sym g)
-one_form Notes xs ys f g = inl (f ∙ sym g)
-one_form Faults xs ys f g = inl (f ∙ sym g)
-one_form Bye xs ys f g = inl (f ∙ sym g)
-one_form command xs ys f g = inl (f.1 ∙ sym g.1)
 
 small_lines : (a : ℕ) (bytes line other : List ℕ) → IsCommand line (Write a bytes) → IsCommand other (Write a bytes)
     → map to_ascii_lowercase line ≡ map to_ascii_lowercase other

@@ -1,7 +1,6 @@
 //! The words that asks begin with.
 use crate::words::named;
-use jlr_machine::ask::FullMode;
-use jlr_machine::kind::AskKind;
+use jlr_machine::ask::{AskKind, FullMode};
 use jlr_types::RefKind;
 
 /// What an event is to do. A reference has a word for each kind, and a full collection one for each mode.

@@ -301,7 +301,8 @@ fn make_now(
     Ok(())
 }
 
-/// Carries out an ask that is not refused. Where it takes memory, that comes before the first change.
+/// Carries out an ask that is not refused; one that is not named here changes nothing of its own. Where it takes
+/// memory, that comes before the first change.
 ///
 /// # Errors
 /// `AllocError` where there is no memory. The machine is then as it was.
@@ -320,14 +321,19 @@ pub fn after_plain(
     match ask {
         Ask::Join { mutator } => return join(alloc, machine, *mutator),
         Ask::Leave { mutator } => put_seat(alloc, machine, *mutator, None),
-        Ask::New { .. } => return make_now(alloc, machine, ask, answer, fresh),
+        Ask::New { .. }
+        | Ask::Array { .. }
+        | Ask::MakeRef { .. }
+        | Ask::MakeQueue { .. }
+        | Ask::MakeCleaner { .. }
+        | Ask::Register { .. }
+        | Ask::Prepare { .. } => return make_now(alloc, machine, ask, answer, fresh),
         Ask::Put {
             mutator,
             object,
             field,
             value,
         } => put(alloc, machine, *mutator, *object, *field, *value),
-        Ask::Get { mutator, .. } => hold_given(alloc, machine, *mutator, ask),
         Ask::SetInt {
             mutator,
             object,
@@ -337,29 +343,23 @@ pub fn after_plain(
             let value = FieldValue::Int(*value);
             set_field(alloc, machine, *mutator, *object, *field, value);
         }
-        Ask::Int { .. } => {}
-        Ask::Dup { mutator, .. } => hold_given(alloc, machine, *mutator, ask),
+        Ask::Get { mutator, .. }
+        | Ask::Dup { mutator, .. }
+        | Ask::Deref { mutator, .. }
+        | Ask::Find { mutator, .. } => hold_given(alloc, machine, *mutator, ask),
         Ask::Drop { mutator, object } => {
             change_seat(alloc, machine, *mutator, SessionChange::Release(*object));
         }
-        Ask::Same { .. } => {}
-        Ask::MakeRef { .. } => return make_now(alloc, machine, ask, answer, fresh),
-        Ask::Deref { mutator, .. } => hold_given(alloc, machine, *mutator, ask),
-        Ask::Refers { .. } => {}
         Ask::Clear { mutator, reference } => clear(alloc, machine, *mutator, *reference),
         Ask::Enqueue { mutator, reference } => {
             return enqueue_named(alloc, machine, *mutator, *reference);
         }
-        Ask::Enqueued { .. } => {}
-        Ask::MakeQueue { .. } => return make_now(alloc, machine, ask, answer, fresh),
-        Ask::Poll { mutator, queue } => poll_asked(alloc, machine, *mutator, *queue, ask),
-        Ask::Remove { mutator, queue } => poll_asked(alloc, machine, *mutator, *queue, ask),
-        Ask::MakeCleaner { .. } => return make_now(alloc, machine, ask, answer, fresh),
-        Ask::Register { .. } => return make_now(alloc, machine, ask, answer, fresh),
+        Ask::Poll { mutator, queue } | Ask::Remove { mutator, queue } => {
+            poll_asked(alloc, machine, *mutator, *queue, ask);
+        }
         Ask::Clean { mutator, cleanable } => {
             return clean_named(alloc, machine, *mutator, *cleanable);
         }
-        Ask::Prepare { .. } => return make_now(alloc, machine, ask, answer, fresh),
         Ask::Opened { mutator, outcome } => {
             return open_fenced(alloc, machine, *mutator, *outcome);
         }
@@ -378,19 +378,12 @@ pub fn after_plain(
             name,
             object,
         } => return bind(alloc, machine, *mutator, name, *object),
-        Ask::Find { mutator, .. } => hold_given(alloc, machine, *mutator, ask),
         Ask::Unbind { name, .. } => return unbind(alloc, machine, name),
-        Ask::Names { .. } => {}
-        Ask::Full { .. } => {}
-        Ask::Stat { .. } => {}
-        Ask::Notes { .. } => {}
-        Ask::Faults { .. } => {}
         Ask::HandOver => return hand_over(alloc, machine),
         Ask::TakeUp => return take_line(alloc, machine),
         Ask::Begin => machine.cycle_open = true,
-        Ask::Collect => {}
         Ask::Abandon => abandon(alloc, machine),
-        Ask::Array { .. } => return make_now(alloc, machine, ask, answer, fresh),
+        _ => {}
     }
     Ok(())
 }

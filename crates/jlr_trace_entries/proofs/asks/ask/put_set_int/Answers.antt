@@ -5,7 +5,7 @@ use Rattle.std.proofs.lemmas.Int.{to_z-of_z}
 use Rattle.jlr_trace_fields.specs.Spelling.{spelled_signed}
 use Rattle.jlr_trace_fields.proofs.Writing.{then_written}
 use Rattle.jlr_trace_entries.specs.Asks.{spelled_field}
-use Rattle.jlr_trace_entries.proofs.asks.writing.put_set_int.Goals as goal
+use Rattle.jlr_trace_entries.proofs.asks.ask.put_set_int.Goals as goal
 
 pub returns : goal.returns
 returns c =

@@ -1,32 +1,249 @@
-//! Reads asks.
+//! An ask in a trace file: how it is written, and read.
+ghost use Rattle.std.specs.Prelude.{◌≡◌, ◌++◌, [], ◌∷◌, OnOk};
 ghost use Rattle.std.specs.Int.{w32, w64};
 ghost use Rattle.jlr_machine.specs.declared.ask.Ask.TheVariants.{Join, Leave, New, Put, Get, SetInt, Int, Dup, Drop};
 ghost use Rattle.jlr_machine.specs.declared.ask.Ask.TheVariants.{Same, MakeRef, Deref, Refers, Clear, Enqueue};
 ghost use Rattle.jlr_machine.specs.declared.ask.Ask.TheVariants.{Enqueued, MakeQueue, Poll, Remove, MakeCleaner};
 ghost use Rattle.jlr_machine.specs.declared.ask.Ask.TheVariants.{Register, Clean, Prepare, Opened, CheckOut, CheckIn};
-ghost use Rattle.jlr_machine.specs.declared.ask.Ask.TheVariants.{Close, Finish, Bind, Find, Unbind, Names, Full, Stat};
-ghost use Rattle.jlr_machine.specs.declared.ask.Ask.TheVariants.{Notes, Faults};
-ghost use Rattle.jlr_trace_fields.specs.Reading.{Reads, one_field, two_fields, three_fields, four_fields, byte_at};
-ghost use Rattle.jlr_trace_fields.specs.Reading.{number_at};
-ghost use Rattle.jlr_trace_fields.specs.Reading.{signed_at, picked_at, text_at};
+ghost use Rattle.jlr_machine.specs.declared.ask.Ask.TheVariants.{Close, Finish, Bind, Find, Unbind, Names, Full};
+ghost use Rattle.jlr_machine.specs.declared.ask.Ask.TheVariants.{Stat, Notes, Faults};
 ghost use Rattle.jlr_machine.specs.Names.{is_name_byte};
+ghost use Rattle.jlr_trace_fields.specs.Reading.{Reads, one_field, two_fields, three_fields, four_fields, byte_at};
+ghost use Rattle.jlr_trace_fields.specs.Reading.{number_at, signed_at, picked_at, text_at};
 ghost use Rattle.jlr_trace_fields.specs.Tables.{ref_kinds};
+ghost use Rattle.jlr_trace_fields.specs.Spelling.{spelled_8, spelled_64, spelled_signed};
 ghost use Rattle.jlr_trace_entries.specs.Asks.{outcomes_by_number, modes, layout_read, call_outcome_read, field_read};
-ghost use Rattle.jlr_trace_entries.specs.Asks.{array_read};
-ghost use Rattle.jlr_trace_entries.specs.Asks.{ask_read};
+ghost use Rattle.jlr_trace_entries.specs.Asks.{array_read, ask_read, outcome_number, spelled_field, FieldFits};
+ghost use Rattle.jlr_trace_entries.specs.Asks.{spelled_ask, AskFits};
 
-use crate::asks::field::{field_at, length_at};
-use crate::asks::layout::layout_at;
-use crate::asks::outcome::{call_outcome_at, mode_at, outcome_at};
-use jlr_machine::ask::Ask;
-use jlr_machine::kind::{AskKind, ask_kinds};
+use crate::asks::field::{field_at, length_at, put_field, put_length};
+use crate::asks::layout::{layout_at, put_layout};
+use crate::asks::outcome::{
+    call_outcome_at, mode_at, outcome_at, put_call_outcome, put_mode, put_outcome,
+};
+use jlr_machine::ask::{Ask, AskKind, Outcome, ask_kinds};
 use jlr_trace_fields::cursor::{
     take_action, take_handle, take_i64, take_mutator, take_name, take_picked, take_u8, take_u32,
 };
 use jlr_trace_fields::fault::{Fault, ReadError};
-use jlr_trace_fields::parts::tables::take_ref_kind;
+use jlr_trace_fields::number::{put_i64, put_u8, put_u32, put_u64};
+use jlr_trace_fields::parts::tables::{put_ref_kind, take_ref_kind};
+use jlr_trace_fields::text::put_text;
 use jlr_trace_fields::version::Version;
-use std::alloc::Global;
+use jlr_types::{ActionNo, FieldNo, Handle, Mutator};
+use std::alloc::{AllocError, Global};
+
+// ---- Writing
+
+/// The number of an ask, and its mutator.
+fn put_alone(out: &mut Vec<u8>, tag: u8, mutator: Mutator) -> Result<(), AllocError>
+    ensures { OnOk result (out.new.items ≡ out.old.items ++ tag ∷ mutator ∷ []) }
+{
+    out.extend_from_slice(&[tag, mutator.number()])?;
+    Ok(())
+}
+
+/// The number of an ask, its mutator, and a handle.
+fn put_one(out: &mut Vec<u8>, tag: u8, mutator: Mutator, handle: Handle) -> Result<(), AllocError>
+    ensures { OnOk result (out.new.items ≡ out.old.items ++ tag ∷ mutator ∷ handle ∷ []) }
+{
+    out.extend_from_slice(&[tag, mutator.number(), handle.number()])?;
+    Ok(())
+}
+
+/// The number of an ask, its mutator, a handle, and another's number.
+fn put_two(
+    out: &mut Vec<u8>,
+    tag: u8,
+    mutator: Mutator,
+    handle: Handle,
+    second: u8,
+) -> Result<(), AllocError>
+    ensures { OnOk result (out.new.items ≡ out.old.items ++ tag ∷ mutator ∷ handle ∷ second ∷ []) }
+{
+    out.extend_from_slice(&[tag, mutator.number(), handle.number(), second])?;
+    Ok(())
+}
+
+/// The number of an ask, its mutator, a handle, and the number of a field.
+fn put_field_of(
+    out: &mut Vec<u8>,
+    version: Version,
+    tag: u8,
+    mutator: Mutator,
+    object: Handle,
+    field: FieldNo,
+) -> Result<(), AllocError>
+    requires { FieldFits version field }
+    ensures { OnOk result (out.new.items ≡ out.old.items ++ tag ∷ mutator ∷ object ∷ spelled_field version field) }
+{
+    put_one(out, tag, mutator, object)?;
+    put_field(out, version, field)
+}
+
+fn put_set_int(
+    out: &mut Vec<u8>,
+    version: Version,
+    mutator: Mutator,
+    object: Handle,
+    field: FieldNo,
+    value: i64,
+) -> Result<(), AllocError>
+    requires { FieldFits version field }
+    ensures { OnOk result (out.new.items ≡ out.old.items
+        ++ (5 ∷ mutator ∷ object ∷ spelled_field version field ++ spelled_signed value)) }
+{
+    put_field_of(out, version, 5, mutator, object, field)?;
+    put_i64(out, value)
+}
+
+fn put_finish(
+    out: &mut Vec<u8>,
+    by: u8,
+    action: ActionNo,
+    outcome: Outcome,
+) -> Result<(), AllocError>
+    ensures { OnOk result (out.new.items ≡ out.old.items ++ 27 ∷ by ∷ spelled_64 action
+        ++ spelled_8 (outcome_number outcome)) }
+{
+    put_u8(out, 27)?;
+    put_u8(out, by)?;
+    put_u64(out, action.number())?;
+    put_outcome(out, outcome)
+}
+
+/// Writes an ask.
+pub(crate) fn put_ask(out: &mut Vec<u8>, version: Version, ask: &Ask) -> Result<(), AllocError>
+    requires { AskFits version ask.now }
+    ensures { OnOk result (out.new.items ≡ out.old.items ++ spelled_ask version ask.now) }
+{
+    match ask {
+        Ask::Join { mutator } => put_alone(out, 0, *mutator),
+        Ask::Leave { mutator } => put_alone(out, 1, *mutator),
+        Ask::New { mutator, layout } => {
+            put_alone(out, 2, *mutator)?;
+            put_layout(out, layout)
+        }
+        Ask::Put {
+            mutator,
+            object,
+            field,
+            value,
+        } => {
+            put_field_of(out, version, 3, *mutator, *object, *field)?;
+            put_u8(out, value.number())
+        }
+        Ask::Get {
+            mutator,
+            object,
+            field,
+        } => put_field_of(out, version, 4, *mutator, *object, *field),
+        Ask::SetInt {
+            mutator,
+            object,
+            field,
+            value,
+        } => put_set_int(out, version, *mutator, *object, *field, *value),
+        Ask::Int {
+            mutator,
+            object,
+            field,
+        } => put_field_of(out, version, 6, *mutator, *object, *field),
+        Ask::Dup { mutator, object } => put_one(out, 7, *mutator, *object),
+        Ask::Drop { mutator, object } => put_one(out, 8, *mutator, *object),
+        Ask::Same {
+            mutator,
+            left,
+            right,
+        } => put_two(out, 9, *mutator, *left, right.number()),
+        Ask::MakeRef {
+            mutator,
+            kind,
+            referent,
+            queue,
+        } => {
+            put_alone(out, 10, *mutator)?;
+            put_ref_kind(out, *kind)?;
+            put_u8(out, referent.number())?;
+            put_u8(out, queue.number())
+        }
+        Ask::Deref { mutator, reference } => put_one(out, 11, *mutator, *reference),
+        Ask::Refers {
+            mutator,
+            reference,
+            object,
+        } => put_two(out, 12, *mutator, *reference, object.number()),
+        Ask::Clear { mutator, reference } => put_one(out, 13, *mutator, *reference),
+        Ask::Enqueue { mutator, reference } => put_one(out, 14, *mutator, *reference),
+        Ask::Enqueued { mutator, reference } => put_one(out, 15, *mutator, *reference),
+        Ask::MakeQueue { mutator } => put_alone(out, 16, *mutator),
+        Ask::Poll { mutator, queue } => put_one(out, 17, *mutator, *queue),
+        Ask::Remove { mutator, queue } => put_one(out, 18, *mutator, *queue),
+        Ask::MakeCleaner { mutator } => put_alone(out, 19, *mutator),
+        Ask::Register {
+            mutator,
+            cleaner,
+            object,
+            note,
+        } => {
+            put_two(out, 20, *mutator, *cleaner, object.number())?;
+            put_u32(out, *note)
+        }
+        Ask::Clean { mutator, cleanable } => put_one(out, 21, *mutator, *cleanable),
+        Ask::Prepare { mutator } => put_alone(out, 22, *mutator),
+        Ask::Opened { mutator, outcome } => {
+            put_alone(out, 23, *mutator)?;
+            put_outcome(out, *outcome)
+        }
+        Ask::CheckOut { mutator, guard } => put_one(out, 24, *mutator, *guard),
+        Ask::CheckIn { mutator, outcome } => {
+            put_alone(out, 25, *mutator)?;
+            put_call_outcome(out, outcome)
+        }
+        Ask::Close { mutator, guard } => put_one(out, 26, *mutator, *guard),
+        Ask::Finish {
+            by,
+            action,
+            outcome,
+        } => put_finish(out, *by, *action, *outcome),
+        Ask::Bind {
+            mutator,
+            name,
+            object,
+        } => {
+            put_alone(out, 28, *mutator)?;
+            put_text(out, name.as_slice())?;
+            put_u8(out, object.number())
+        }
+        Ask::Find { mutator, name } => {
+            put_alone(out, 29, *mutator)?;
+            put_text(out, name.as_slice())
+        }
+        Ask::Unbind { mutator, name } => {
+            put_alone(out, 30, *mutator)?;
+            put_text(out, name.as_slice())
+        }
+        Ask::Names { mutator } => put_alone(out, 31, *mutator),
+        Ask::Full { mutator, mode } => {
+            put_alone(out, 32, *mutator)?;
+            put_mode(out, *mode)
+        }
+        Ask::Stat { mutator } => put_alone(out, 33, *mutator),
+        Ask::Notes { mutator } => put_alone(out, 34, *mutator),
+        Ask::Faults { mutator } => put_alone(out, 35, *mutator),
+        Ask::HandOver => put_u8(out, 36),
+        Ask::TakeUp => put_u8(out, 37),
+        Ask::Begin => put_u8(out, 38),
+        Ask::Collect => put_u8(out, 39),
+        Ask::Abandon => put_u8(out, 40),
+        Ask::Array { mutator, length } => {
+            put_alone(out, 41, *mutator)?;
+            put_length(out, *length)
+        }
+    }
+}
+
+// ---- Reading
 
 fn join_at(bytes: &mut &[u8]) -> Result<Ask, ReadError>
     ensures { Reads (λ x. x) result bytes.new.now (one_field byte_at Join bytes.old.now) }

@@ -1,7 +1,7 @@
--- The lines of the forms are those of commands.
-use Rattle.std.proofs.Common.{◌≡◌, ◌≤◌, ℕ, List, [], ◌∷◌, length, refl, ap, ◌∙◌}
+-- Each form is listed, and the lines of the forms are those of commands.
+use Rattle.std.proofs.Common.{◌≡◌, ◌≤◌, ℕ, List, [], ◌∷◌, length, refl, ap, ◌∙◌, arith}
 use Rattle.std.specs.Prelude.{codes, decimal}
-use Rattle.std.specs.List.{join_with_byte}
+use Rattle.std.specs.List.{Contains, join_with_byte}
 use Rattle.std.specs.Fmt.{signed_decimal}
 use Rattle.jlr_machine.specs.declared.ask.FullMode.TheVariants.{Policy, ClearAll}
 use Rattle.jlr_wire.specs.Commands.{layout, mode_letter, Fields, IsCommand}
@@ -12,6 +12,53 @@ use Rattle.jlr_client.specs.declared.manual.form.Form.TheVariants as form
 use Rattle.jlr_client.specs.declared.manual.operand.Operand.{Operand}
 use Rattle.jlr_client.specs.declared.manual.operand.Operand.TheVariants as operand
 use Rattle.jlr_client.specs.Forms.{word_of_form, operands_of, IsOperand, AreOperands, IsOfForm, FormsAreCommands}
+
+abbrev listed_forms : List Form
+listed_forms = form.New ∷ form.Array ∷ form.Put ∷ form.Get ∷ form.SetInt ∷ form.Int ∷ form.Dup ∷ form.Drop ∷
+    form.Same ∷ form.Soft ∷ form.Weak ∷ form.Phantom ∷ form.Deref ∷ form.Refers ∷ form.Clear ∷ form.Enqueue ∷
+    form.Enqueued ∷ form.Queue ∷ form.Poll ∷ form.Remove ∷ form.Cleaner ∷ form.Register ∷ form.Clean ∷ form.Open ∷
+    form.Connect ∷ form.Read ∷ form.Write ∷ form.Close ∷ form.Bind ∷ form.Find ∷ form.Unbind ∷ form.Names ∷ form.Gc ∷
+    form.GcSoft ∷ form.Stat ∷ form.Notes ∷ form.Faults ∷ form.Bye ∷ []
+
+pub each_form_is_listed : (f : Form) → Contains listed_forms f
+each_form_is_listed form.New = (0, omega arith, refl)
+each_form_is_listed form.Array = (1, omega arith, refl)
+each_form_is_listed form.Put = (2, omega arith, refl)
+each_form_is_listed form.Get = (3, omega arith, refl)
+each_form_is_listed form.SetInt = (4, omega arith, refl)
+each_form_is_listed form.Int = (5, omega arith, refl)
+each_form_is_listed form.Dup = (6, omega arith, refl)
+each_form_is_listed form.Drop = (7, omega arith, refl)
+each_form_is_listed form.Same = (8, omega arith, refl)
+each_form_is_listed form.Soft = (9, omega arith, refl)
+each_form_is_listed form.Weak = (10, omega arith, refl)
+each_form_is_listed form.Phantom = (11, omega arith, refl)
+each_form_is_listed form.Deref = (12, omega arith, refl)
+each_form_is_listed form.Refers = (13, omega arith, refl)
+each_form_is_listed form.Clear = (14, omega arith, refl)
+each_form_is_listed form.Enqueue = (15, omega arith, refl)
+each_form_is_listed form.Enqueued = (16, omega arith, refl)
+each_form_is_listed form.Queue = (17, omega arith, refl)
+each_form_is_listed form.Poll = (18, omega arith, refl)
+each_form_is_listed form.Remove = (19, omega arith, refl)
+each_form_is_listed form.Cleaner = (20, omega arith, refl)
+each_form_is_listed form.Register = (21, omega arith, refl)
+each_form_is_listed form.Clean = (22, omega arith, refl)
+each_form_is_listed form.Open = (23, omega arith, refl)
+each_form_is_listed form.Connect = (24, omega arith, refl)
+each_form_is_listed form.Read = (25, omega arith, refl)
+each_form_is_listed form.Write = (26, omega arith, refl)
+each_form_is_listed form.Close = (27, omega arith, refl)
+each_form_is_listed form.Bind = (28, omega arith, refl)
+each_form_is_listed form.Find = (29, omega arith, refl)
+each_form_is_listed form.Unbind = (30, omega arith, refl)
+each_form_is_listed form.Names = (31, omega arith, refl)
+each_form_is_listed form.Gc = (32, omega arith, refl)
+each_form_is_listed form.GcSoft = (33, omega arith, refl)
+each_form_is_listed form.Stat = (34, omega arith, refl)
+each_form_is_listed form.Notes = (35, omega arith, refl)
+each_form_is_listed form.Faults = (36, omega arith, refl)
+each_form_is_listed form.Bye = (37, omega arith, refl)
 
 of_form : (line : List ℕ) (f : Form) (texts : List (List ℕ)) → AreOperands (operands_of f) texts → length line ≤ 512
     → line ≡ join_with_byte 32 (word_of_form f ∷ texts) → IsOfForm line f
