@@ -56,7 +56,7 @@ pub record IsStep {R : Type 0} (old : Kept R) (event : Event R) (reply : Reply R
   -- a Collect is answered yes exactly where a cycle is open and no cell is grey
   pub collects : ask_of event ≡ Some Collect
       → answer_in reply ≡ Some (Truth (old.machine.cycle_open && not (has_grey old.marking)))
-  -- what a full collection took away takes no memory any more
+  -- a full collection that was asked for leaves no cell condemned
   pub swept : SweepsAll (ask_of event) (answer_in reply) new.condemned
   -- what a collection keeps, and when soft references were last used
   pub policy : KeepsByPolicy old.soft_age old.clock old.machine old.marking (ask_of event) chosen
