@@ -4,7 +4,7 @@ ghost use Rattle.std.specs.Prelude.{MatchOption, OnOk, OnErr, None, Some, vec_le
 ghost use Rattle.jlr_machine.specs.Data.{Brings};
 ghost use Rattle.jlr_machine.specs.Refusals.{is_end, refusal};
 ghost use Rattle.jlr_event.specs.Asks.{hands_in};
-ghost use Rattle.jlr_event.specs.Events.{ask_of};
+ghost use Rattle.jlr_event.specs.Events.{ask_of, said_by};
 ghost use Rattle.jlr_core.specs.Events.{handed_out, take_up_answered};
 ghost use Rattle.jlr_plain.specs.Records.{replayed};
 ghost use Rattle.jlr_book.specs.Due.{IsCycleDue};
@@ -22,7 +22,7 @@ use crate::image::image::Image;
 use crate::room::ChoiceRoom;
 use jlr_cleaner::Job;
 use jlr_core::engine::Core;
-use jlr_event::event::{Event, Reply, ended};
+use jlr_event::event::{Event, Reply, ended, write_over};
 use jlr_machine::ask::{Answer, Ask, Handed, Outcome};
 use jlr_machine::choice::Choice;
 use jlr_machine::data::{CopyRoom, Data};
@@ -215,25 +215,65 @@ impl<R: Drop> Book<R> {
         let Event::Ask(ask) = event else {
             return self.step_with_resource(seat, event, room);
         };
-        let ask = ask.into_ask();
+        let mut answer = Answer::Done;
+        match self.try_in_place(seat, ask.into_ask(), &mut answer) {
+            Some(ask) => self.step_slow(seat, ask),
+            None => Reply::Answered {
+                answer,
+                resource: None,
+            },
+        }
+    }
+
+    /// What `step` does for an ask that hands in no resource, with its answer in the place of another. A resource that
+    /// is handed out with it is dropped.
+    pub fn answer(&mut self, seat: u8, ask: Ask, answer: &mut Answer)
+        requires plain { hands_in ask ≡ false }
+        ensures { (reply : Reply R) × BookSteps seat self.old (Event.Ask ask) reply self.new
+            × (answer.new ≡ said_by reply) }
+    {
+        if self.image.is_behind() {
+            self.follow_some();
+        }
+        self.answer_on(seat, ask, answer);
+    }
+
+    /// The same, without a look at the image.
+    #[inline(always)]
+    fn answer_on(&mut self, seat: u8, ask: Ask, answer: &mut Answer)
+        requires plain { hands_in ask ≡ false }
+        ensures { (reply : Reply R) × BookSteps seat self.old (Event.Ask ask) reply self.new
+            × (answer.new ≡ said_by reply) }
+    {
+        if let Some(ask) = self.try_in_place(seat, ask, answer) {
+            self.step_slow(seat, ask).answer_into(answer);
+        }
+    }
+
+    /// An ask whose entry needs its place alone, if it finds it and nothing is collected or cut: its answer comes in
+    /// the place of another. Else nothing is done, and the ask comes back.
+    #[inline(always)]
+    fn try_in_place(&mut self, seat: u8, ask: Ask, answer: &mut Answer) -> Option<Ask>
+        ensures { MatchOption result
+            (BookSteps seat self.old (Event.Ask ask) (Reply.Answered answer.new None) self.new)
+            (λ back. (back ≡ ask) × (self.new ≡ self.old)) }
+    {
         if fits_fast_path(&ask)
             && self.has_numbers()
             && has_reserved_places(&self.trace, self.limits.trace)
             && !self.core.will_collect(&ask)
         {
-            let answer = record_in_place(
+            let said = record_in_place(
                 &mut self.core,
                 &mut self.choice,
                 &mut self.trace,
                 seat,
                 ask,
             );
-            return Reply::Answered {
-                answer,
-                resource: None,
-            };
+            write_over(answer, said);
+            return None;
         }
-        self.step_slow(seat, ask)
+        Some(ask)
     }
 
     /// The same for any ask that hands in no resource: the room of its entry is made first, and the trace is cut where

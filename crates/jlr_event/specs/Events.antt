@@ -6,6 +6,8 @@ use Rattle.jlr_machine.specs.declared.ask.Outcome.TheVariants as outcome
 use Rattle.jlr_machine.specs.declared.ask.Ask.{Ask}
 use Rattle.jlr_machine.specs.declared.ask.Ask.TheVariants as ask
 use Rattle.jlr_machine.specs.declared.ask.Answer.{Answer}
+use Rattle.jlr_machine.specs.declared.ask.Answer.TheVariants.{Handed}
+use Rattle.jlr_machine.specs.declared.ask.Handed.TheVariants.{Nothing}
 use Rattle.jlr_event.specs.declared.event.Event.{Event}
 use Rattle.jlr_event.specs.declared.event.Event.TheVariants.{Ask as Asks, Opened, CheckIn, Mark}
 use Rattle.jlr_event.specs.declared.event.Reply.{Reply}
@@ -37,6 +39,15 @@ resource_of_event _ = None
 abbrev pub answer_in : {R : Type 0} → Reply R → Option Answer
 answer_in (Answered answer resource) = Some answer
 answer_in (Marked progress) = None
+
+-- what stands for the answer of a piece of marking, which has none: it has no line
+abbrev pub no_answer : Answer
+no_answer = Handed Nothing
+
+-- the answer of a reply, or what stands for it
+abbrev pub said_by : {R : Type 0} → Reply R → Answer
+said_by (Answered answer resource) = answer
+said_by (Marked progress) = no_answer
 
 -- the resource that a reply hands out
 abbrev pub resource_of_reply : {R : Type 0} → Reply R → Option R

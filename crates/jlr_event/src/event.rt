@@ -1,9 +1,9 @@
 //! What comes to the core, and what goes back: an ask or an answer with the resource that it carries.
 ghost use Rattle.std.specs.Prelude.{◌≡◌, false};
 ghost use Rattle.jlr_event.specs.Asks.{hands_in};
-ghost use Rattle.jlr_event.specs.Events.{answer_in, outcome_of, resource_of_reply};
+ghost use Rattle.jlr_event.specs.Events.{answer_in, no_answer, outcome_of, resource_of_reply, said_by};
 
-use jlr_machine::ask::{Answer, Ask, CallOutcome, Outcome};
+use jlr_machine::ask::{Answer, Ask, CallOutcome, Handed, Outcome};
 use jlr_types::{Fault, Mutator, Progress};
 use std::marker::Model;
 
@@ -98,6 +98,45 @@ impl<R> Reply<R> {
             Reply::Marked(_) => (None, None),
         }
     }
+}
+
+impl<R: Drop> Reply<R> {
+    /// The answer, or what stands for that of a piece of marking. A resource that comes with it is dropped.
+    #[inline(always)]
+    pub fn into_answer(self) -> Answer
+        ensures { result ≡ said_by self }
+    {
+        match self {
+            Reply::Answered { answer, .. } => answer,
+            Reply::Marked(_) => unanswered(),
+        }
+    }
+
+    /// Puts the answer in the place of another, which is dropped, and so is a resource that comes with it.
+    #[inline(always)]
+    pub fn answer_into(self, answer: &mut Answer)
+        ensures { answer.new ≡ said_by self }
+    {
+        match self {
+            Reply::Answered { answer: said, .. } => write_over(answer, said),
+            Reply::Marked(_) => write_over(answer, unanswered()),
+        }
+    }
+}
+
+/// What stands for the answer of a piece of marking, which has none. It has no line, so that a session ends by it.
+pub fn unanswered() -> Answer
+    ensures { result ≡ no_answer }
+{
+    Answer::Handed(Handed::Nothing)
+}
+
+/// Writes an answer over another, which is let go here, and not by each caller.
+#[inline(always)]
+pub fn write_over(answer: &mut Answer, said: Answer)
+    ensures { answer.new ≡ said }
+{
+    *answer = said;
 }
 
 /// How it ended, without what it gave.

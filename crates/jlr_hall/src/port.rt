@@ -15,7 +15,7 @@ use crate::step::Limited;
 use crate::vigil::Vigil;
 use jlr_event::event::{Event, Reply};
 use jlr_log::Naming;
-use jlr_machine::ask::Ask;
+use jlr_machine::ask::{Answer, Ask};
 use jlr_machine::data::CopyRoom;
 use jlr_session::port::{Port, ReadRoom};
 use jlr_types::{Handle, Mutator, Refusal};
@@ -84,7 +84,9 @@ impl<'a, R: Drop, L: Naming + Limited, T: Wait, V: Vigil> SeatPort<'a, R, L, T, 
 impl<'a, R: Drop, L: Naming + Limited, T: Wait, V: Vigil> Port<R> for SeatPort<'a, R, L, T, V> {
     ghost use Rattle.jlr_machine.specs.declared.ask.Answer.TheVariants.{Refused};
     ghost use Rattle.jlr_machine.specs.Data.{Brings};
-    ghost use Rattle.jlr_event.specs.Events.{ask_of};
+    ghost use Rattle.std.specs.Prelude.{false};
+    ghost use Rattle.jlr_event.specs.Asks.{hands_in};
+    ghost use Rattle.jlr_event.specs.Events.{ask_of, said_by};
     ghost use Rattle.jlr_event.specs.declared.event.Event.TheVariants.{Ask as Asks};
     ghost use Rattle.jlr_event.specs.declared.event.Reply.TheVariants.{Answered};
     ghost use Rattle.jlr_hall.specs.Asking.{Asked};
@@ -118,6 +120,15 @@ impl<'a, R: Drop, L: Naming + Limited, T: Wait, V: Vigil> Port<R> for SeatPort<'
             return self.remove(removal);
         }
         self.ask_once(event, room)
+    }
+
+    fn answer(&mut self, ask: Ask, answer: &mut Answer)
+        requires plain { hands_in ask ≡ false }
+        ensures answered { (reply : Reply R) × Asked L.limits self.old (Asks ask) reply self.new
+            × (answer.new ≡ said_by reply) }
+        ensures named { self.new.seat ≡ self.old.seat }
+    {
+        self.ask(Event::ask(ask), None).answer_into(answer);
     }
 
     fn settle(&mut self)

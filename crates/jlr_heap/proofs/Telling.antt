@@ -10,11 +10,11 @@ use Rattle.jlr_device.specs.Handling.{Handling}
 use Rattle.jlr_event.specs.declared.event.Event.{Event}
 use Rattle.jlr_machine.specs.declared.ask.Ask.TheVariants.{Close, Finish}
 use Rattle.jlr_event.specs.declared.event.Event.TheVariants.{Ask as Asks}
-use Rattle.jlr_event.specs.Events.{outcome_of}
+use Rattle.jlr_event.specs.Events.{outcome_of, said_by}
 use Rattle.jlr_event.specs.declared.event.Reply.{Reply}
 use Rattle.jlr_event.specs.declared.event.Reply.TheVariants.{Answered}
 use Rattle.jlr_session.specs.Calls.{Finishes}
-use Rattle.jlr_session.specs.Asks.{Asking, TellsFinished, job_by, said_by}
+use Rattle.jlr_session.specs.Asks.{Asking, TellsFinished, job_by}
 use Rattle.jlr_heap.specs.Files.{IsAskedTwice, TellsClosed}
 
 module _ {K R : Type 0} (asking : Asking K R) (old new : K) where

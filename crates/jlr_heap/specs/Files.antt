@@ -14,7 +14,8 @@ use Rattle.jlr_event.specs.declared.event.Reply.{Reply}
 use Rattle.jlr_event.specs.declared.event.Reply.TheVariants.{Answered}
 use Rattle.jlr_session.specs.Calls.{Opening}
 use Rattle.jlr_session.specs.Asks.{Asking, AsksTwice, TellsConnected, TellsFinished, TellsOpened, TellsRead}
-use Rattle.jlr_session.specs.Asks.{TellsWritten, job_by, said_by, out_by, prepared_by}
+use Rattle.jlr_event.specs.Events.{said_by}
+use Rattle.jlr_session.specs.Asks.{TellsWritten, job_by, out_by, prepared_by}
 use Rattle.jlr_heap.specs.declared.failed.Failed.{Failed as Why}
 use Rattle.jlr_heap.specs.declared.failed.Failed.TheVariants as why
 use Rattle.jlr_heap.specs.declared.heap.Heap.{Heap}

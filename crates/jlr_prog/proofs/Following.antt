@@ -14,7 +14,7 @@ use Rattle.jlr_laws.proofs.Frames.{no_some}
 use Rattle.jlr_event.specs.declared.event.Event.{Event}
 use Rattle.jlr_event.specs.declared.event.Event.TheVariants as event
 use Rattle.jlr_event.specs.declared.event.Reply.{Reply}
-use Rattle.jlr_event.specs.Events.{ask_of, outcome_of}
+use Rattle.jlr_event.specs.Events.{ask_of, outcome_of, said_by}
 use Rattle.jlr_wire.specs.declared.command.Command.{Command}
 use Rattle.jlr_wire.specs.declared.command.Command.TheVariants.{New, Put, Get, SetInt, Dup, Drop, Soft, Weak, Phantom, Deref}
 use Rattle.jlr_wire.specs.declared.command.Command.TheVariants.{Clear, Enqueue, Queue, Poll, Remove, Cleaner, Register}
@@ -23,7 +23,7 @@ use Rattle.jlr_wire.specs.declared.command.Command.TheVariants.{Bye, Array}
 use Rattle.jlr_cleaner.specs.declared.job.Job.{Job as JobOf}
 use Rattle.jlr_device.specs.Handling.{Handling}
 use Rattle.jlr_session.specs.Calls.{Opening}
-use Rattle.jlr_session.specs.Asks.{AsksOnce, AsksTwice, CarriesOut, by_asks, ask_by, said_by, prepared_by, out_by, job_by, TellsOpened}
+use Rattle.jlr_session.specs.Asks.{AsksOnce, AsksTwice, CarriesOut, by_asks, ask_by, prepared_by, out_by, job_by, TellsOpened}
 use Rattle.jlr_session.specs.Asks.{TellsConnected, TellsRead, TellsWritten, TellsFinished}
 use Rattle.jlr_session.specs.Sessions.{Ended}
 use Rattle.jlr_session.specs.declared.shell.SessionEnd.{SessionEnd}

@@ -22,12 +22,11 @@ use Rattle.jlr_event.specs.declared.event.Event.{Event}
 use Rattle.jlr_event.specs.declared.event.Event.TheVariants.{Ask as Asks}
 use Rattle.jlr_event.specs.declared.event.Reply.{Reply}
 use Rattle.jlr_event.specs.declared.event.Reply.TheVariants.{Answered}
-use Rattle.jlr_event.specs.Events.{answer_in, resource_of_event, resource_of_reply}
+use Rattle.jlr_event.specs.Events.{answer_in, resource_of_event, resource_of_reply, said_by}
 use Rattle.jlr_book.specs.Cores.{GoesOut, Kept, IsStep}
 use Rattle.jlr_book.proofs.Cores.{limits_hold, stands_at_start}
 use Rattle.jlr_device.specs.Handling.{Handling}
 use Rattle.jlr_session.specs.Calls.{Opening}
-use Rattle.jlr_session.specs.Asks.{said_by}
 use Rattle.jlr_session.specs.Serving.{Follows, IsTurnedAway, Serves}
 use Rattle.jlr_session.specs.declared.shell.SessionEnd.{SessionEnd}
 use Rattle.jlr_book.specs.Histories.{History, IsNewBook}

@@ -15,7 +15,8 @@ use Rattle.jlr_wire.specs.declared.command.Command.{Command}
 use Rattle.jlr_wire.specs.declared.command.Command.TheVariants.{Open, Connect, Read, Write, Clean, Close}
 use Rattle.jlr_session.specs.Calls.{Opening}
 use Rattle.jlr_session.specs.Carrying.{Carrying}
-use Rattle.jlr_session.specs.Asks.{AsksOnce, AsksTwice, CarriesOut, by_asks, said_by, ask_by}
+use Rattle.jlr_event.specs.Events.{said_by}
+use Rattle.jlr_session.specs.Asks.{AsksOnce, AsksTwice, CarriesOut, by_asks, ask_by}
 use Rattle.jlr_session.specs.Serving.{Follows, IsTurnedAway, Serves}
 use Rattle.jlr_session.specs.declared.shell.SessionEnd.{SessionEnd}
 use Rattle.jlr_session.proofs.Following.{IsFollowed, ended_along}

@@ -7,12 +7,11 @@ use Rattle.jlr_machine.specs.declared.ask.Ask.TheVariants as ask
 use Rattle.jlr_machine.specs.declared.ask.Answer.{Answer}
 use Rattle.jlr_machine.specs.declared.ask.Answer.TheVariants as answer
 use Rattle.jlr_machine.specs.declared.ask.CallOutcome.{CallOutcome}
-use Rattle.jlr_machine.specs.declared.ask.Handed.TheVariants.{Nothing}
 use Rattle.jlr_device.specs.declared.device.Mode.{Mode}
 use Rattle.jlr_cleaner.specs.declared.job.Job.{Job}
 use Rattle.jlr_event.specs.declared.event.Event.{Event}
 use Rattle.jlr_event.specs.declared.event.Event.TheVariants as event
-use Rattle.jlr_event.specs.Events.{outcome_of}
+use Rattle.jlr_event.specs.Events.{no_answer, outcome_of, said_by}
 use Rattle.jlr_event.specs.declared.event.Reply.{Reply}
 use Rattle.jlr_event.specs.declared.event.Reply.TheVariants.{Answered, Marked}
 use Rattle.jlr_wire.specs.declared.command.Command.{Command}
@@ -32,15 +31,6 @@ pub record Asking (P R : Type 0) : Type 1 where
   pub settling : P → P → Type 0
 
 -- ---- What replies say
-
--- what stands for the answer of a piece of marking, which has none: it has no line
-abbrev pub no_answer : Answer
-no_answer = answer.Handed Nothing
-
--- the answer of a reply
-abbrev pub said_by : {R : Type 0} → Reply R → Answer
-said_by (Answered answer resource) = answer
-said_by (Marked progress) = no_answer
 
 -- room was made for a resource
 abbrev pub room_prepared : Answer → Result (Unit {0}) Answer

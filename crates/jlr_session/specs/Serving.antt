@@ -5,10 +5,11 @@ use Rattle.jlr_machine.specs.declared.ask.Answer.{Answer}
 use Rattle.jlr_machine.specs.declared.ask.Answer.TheVariants.{Refused}
 use Rattle.jlr_machine.specs.declared.ask.Ask.TheVariants.{Join, Leave}
 use Rattle.jlr_event.specs.declared.event.Event.TheVariants.{Ask as Asks}
+use Rattle.jlr_event.specs.Events.{said_by}
 use Rattle.jlr_event.specs.declared.event.Reply.{Reply}
 use Rattle.jlr_device.specs.Handling.{Handling}
 use Rattle.jlr_session.specs.Calls.{Opening}
-use Rattle.jlr_session.specs.Asks.{Asking, said_by, by_asks}
+use Rattle.jlr_session.specs.Asks.{Asking, by_asks}
 use Rattle.jlr_session.specs.Turns.{reply_line}
 use Rattle.jlr_session.specs.Sessions.{Ended}
 use Rattle.jlr_session.specs.declared.shell.SessionEnd.{SessionEnd}

@@ -10,9 +10,9 @@ use crate::carry::CarryOut;
 use crate::event::ask_for;
 use crate::job::{carry_out, job_of};
 use crate::port::{Port, ReadRoom};
-use crate::reply::{handed_out, prepared, store_answer, write_over};
+use crate::reply::{handed_out, prepared};
 use jlr_device::{Device, Mode, Resource};
-use jlr_event::event::Event;
+use jlr_event::event::{Event, write_over};
 use jlr_machine::ask::{Answer, Ask};
 use jlr_types::{Handle, Mutator};
 use jlr_wire::command::{Command, Digits};
@@ -65,7 +65,7 @@ fn ask_once<P: Port<R>, R: Drop>(
     ensures { AsksOnce P.asking (ask_by mutator command.now) port.old answer.new port.new }
 {
     match ask_for(mutator, command) {
-        Some(ask) => store_answer(port.ask(Event::ask(ask), None), answer),
+        Some(ask) => port.answer(ask, answer),
         None => write_over(answer, Answer::Done),
     }
 }
@@ -92,7 +92,9 @@ where
         (device.new ≡ device.old) port.old answer.new port.new }
 {
     match prepared(port.ask(Event::ask(Ask::Prepare { mutator }), None)) {
-        Ok(()) => store_answer(port.ask(opened(device, mutator, mode, path), None), answer),
+        Ok(()) => port
+            .ask(opened(device, mutator, mode, path), None)
+            .answer_into(answer),
         Err(refused) => write_over(answer, refused),
     }
 }
@@ -118,7 +120,9 @@ where
         (device.new ≡ device.old) port.old answer.new port.new }
 {
     match prepared(port.ask(Event::ask(Ask::Prepare { mutator }), None)) {
-        Ok(()) => store_answer(port.ask(connected(device, mutator, path), None), answer),
+        Ok(()) => port
+            .ask(connected(device, mutator, path), None)
+            .answer_into(answer),
         Err(refused) => write_over(answer, refused),
     }
 }
@@ -150,7 +154,7 @@ where
     match handed_out(port.ask(Event::ask(Ask::CheckOut { mutator, guard }), None)) {
         Ok(resource) => {
             let told = read_back(device, mutator, resource, count, bytes);
-            store_answer(port.ask(told, Some(copies)), answer);
+            port.ask(told, Some(copies)).answer_into(answer);
         }
         Err(refused) => write_over(answer, refused),
     }
@@ -174,13 +178,10 @@ where
 {
     let bytes = digits.decode();
     match handed_out(port.ask(Event::ask(Ask::CheckOut { mutator, guard }), None)) {
-        Ok(resource) => store_answer(
-            port.ask(
-                written_back(device, mutator, resource, bytes.as_slice()),
-                None,
-            ),
-            answer,
-        ),
+        Ok(resource) => {
+            let told = written_back(device, mutator, resource, bytes.as_slice());
+            port.ask(told, None).answer_into(answer);
+        }
         Err(refused) => write_over(answer, refused),
     }
 }
@@ -228,7 +229,9 @@ fn work<P: Port<R>, R: Resource + Drop>(
         ⊤ port.old answer.new port.new }
 {
     match job_of(port.ask(Event::ask(ask), None)) {
-        Ok(job) => store_answer(port.ask(carry_out(mutator.number(), job), None), answer),
+        Ok(job) => port
+            .ask(carry_out(mutator.number(), job), None)
+            .answer_into(answer),
         Err(refused) => write_over(answer, refused),
     }
 }

@@ -3,11 +3,10 @@ ghost use Rattle.std.specs.Prelude.{◌≡◌};
 ghost use Rattle.jlr_session.specs.Asks.{TellsFinished, job_by};
 ghost use Rattle.jlr_session.specs.Calls.{Finishes};
 
-use crate::reply::unanswered;
 use jlr_cleaner::Job;
 use jlr_device::Resource;
 use jlr_device::guarded::guarded_finish;
-use jlr_event::event::{Event, Reply, ended};
+use jlr_event::event::{Event, Reply, ended, unanswered};
 use jlr_machine::ask::{Answer, Ask};
 use jlr_types::Fault;
 

@@ -1,5 +1,6 @@
 //! What the asks of a session go to.
 use jlr_event::event::{Event, Reply};
+use jlr_machine::ask::{Answer, Ask};
 use jlr_machine::data::{CopyRoom, Data};
 use jlr_types::{Handle, Mutator, Refusal};
 use std::alloc::{AllocError, Global};
@@ -26,10 +27,11 @@ impl ReadRoom {
 
 /// What answers the asks of one mutator: a heap, or a seat at a heap that others share.
 pub trait Port<R> {
-    ghost use Rattle.std.specs.Prelude.{◌≡◌, IfErr, None};
+    ghost use Rattle.std.specs.Prelude.{◌≡◌, IfErr, None, false};
     ghost use Rattle.jlr_machine.specs.Data.{Brings};
     ghost use Rattle.jlr_machine.specs.declared.ask.Answer.TheVariants.{Refused};
-    ghost use Rattle.jlr_event.specs.Events.{ask_of};
+    ghost use Rattle.jlr_event.specs.Asks.{hands_in};
+    ghost use Rattle.jlr_event.specs.Events.{ask_of, said_by};
     ghost use Rattle.jlr_machine.specs.declared.ask.Ask.TheVariants.{CheckOut};
     ghost use Rattle.jlr_event.specs.declared.event.Event.TheVariants.{Ask as Asks};
     ghost use Rattle.jlr_event.specs.declared.event.Reply.TheVariants.{Answered};
@@ -55,6 +57,14 @@ pub trait Port<R> {
     fn ask(&mut self, event: Event<R>, room: Option<CopyRoom>) -> Reply<R>
         requires room { Brings room (ask_of event) }
         ensures asked { asking.asks self.old event result self.new }
+        ensures named { asking.mutator self.new ≡ asking.mutator self.old };
+
+    /// Asks what hands in no resource, and puts the answer in the place of another. A resource that is handed out with
+    /// it is dropped.
+    fn answer(&mut self, ask: Ask, answer: &mut Answer)
+        requires plain { hands_in ask ≡ false }
+        ensures answered { (reply : Reply R) × asking.asks self.old (Asks ask) reply self.new
+            × (answer.new ≡ said_by reply) }
         ensures named { asking.mutator self.new ≡ asking.mutator self.old };
 
     /// Does what is left to do after a reply went out.

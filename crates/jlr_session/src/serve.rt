@@ -4,13 +4,12 @@ ghost use Rattle.std.specs.Io.KnownBytes.{Appends, Consumes};
 ghost use Rattle.jlr_machine.specs.declared.ask.Ask.TheVariants.{Join, Leave};
 ghost use Rattle.jlr_event.specs.declared.event.Event.TheVariants.{Ask as Asks};
 ghost use Rattle.jlr_event.specs.declared.event.Reply.{Reply};
-ghost use Rattle.jlr_session.specs.Asks.{said_by};
+ghost use Rattle.jlr_event.specs.Events.{said_by};
 ghost use Rattle.jlr_session.specs.Limits.{FindsEnd, most_bytes};
 ghost use Rattle.jlr_session.specs.Serving.{IsTurnedAway, Serves};
 
 use crate::asks::ByAsks;
 use crate::port::Port;
-use crate::reply::reply_answer;
 use crate::shell::{SessionEnd, converse};
 use crate::turn::reply;
 use jlr_device::Device;
@@ -68,7 +67,9 @@ fn join<P: Port<R>, R: Drop>(port: &mut P) -> Answer
         × (result ≡ said_by reply) }
 {
     let mutator = port.mutator();
-    reply_answer(port.ask(Event::ask(Ask::Join { mutator }), None))
+    let mut answer = Answer::Done;
+    port.answer(Ask::Join { mutator }, &mut answer);
+    answer
 }
 
 /// The mutator leaves.

@@ -4,8 +4,8 @@ ghost use Rattle.jlr_session.specs.Turns.{AnswersRead, SendsReply, TurnEnds};
 ghost use Rattle.jlr_wire.specs.declared.command.Command.TheVariants.{Bye};
 
 use crate::carry::CarryOut;
-use crate::reply::write_over;
 use crate::shell::SessionEnd;
+use jlr_event::event::write_over;
 use jlr_machine::ask::Answer;
 use jlr_types::Refusal;
 use jlr_wire::command::{Command, read_command};

@@ -2,7 +2,8 @@
 ghost use Rattle.std.specs.Prelude.{◌≡◌, ◌≢◌, ◌<◌, false, [], IfErr, IfOk, MatchBool, None, length};
 ghost use Rattle.jlr_machine.specs.Data.{Brings, tells_data};
 ghost use Rattle.jlr_machine.specs.declared.ask.Answer.TheVariants.{Refused};
-ghost use Rattle.jlr_event.specs.Events.{ask_of};
+ghost use Rattle.jlr_event.specs.Asks.{hands_in};
+ghost use Rattle.jlr_event.specs.Events.{ask_of, said_by};
 ghost use Rattle.jlr_machine.specs.declared.ask.Ask.TheVariants.{CheckOut, HandOver};
 ghost use Rattle.jlr_event.specs.declared.event.Event.TheVariants.{Ask as Asks};
 ghost use Rattle.jlr_event.specs.declared.event.Reply.TheVariants.{Answered};
@@ -239,6 +240,15 @@ impl<R: Resource + Drop> Port<R> for Solo<R> {
         ensures named { (by_book R.handling).mutator self.new ≡ (by_book R.handling).mutator self.old }
     {
         self.book.step(0, event, room)
+    }
+
+    fn answer(&mut self, ask: Ask, answer: &mut Answer)
+        requires plain { hands_in ask ≡ false }
+        ensures answered { (reply : Reply R) × BookSteps 0 self.old (Asks ask) reply self.new
+            × (answer.new ≡ said_by reply) }
+        ensures named { (by_book R.handling).mutator self.new ≡ (by_book R.handling).mutator self.old }
+    {
+        self.book.answer(0, ask, answer);
     }
 
     fn settle(&mut self) {

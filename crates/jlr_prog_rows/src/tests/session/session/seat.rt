@@ -163,6 +163,10 @@ impl Port<ScriptResource> for Seat {
         }
     }
 
+    fn answer(&mut self, ask: Ask, answer: &mut Answer) {
+        self.ask(Event::ask(ask), None).answer_into(answer);
+    }
+
     fn settle(&mut self) {
         self.settlings = self.settlings.saturating_add(1);
     }
