@@ -5,7 +5,6 @@ pub mod Integers
 pub mod Numbers
 pub mod Options
 pub mod Texts
-pub mod Laws
 pub mod Splits
 pub mod Sending
 pub mod Spelled
