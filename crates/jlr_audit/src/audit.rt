@@ -65,7 +65,7 @@ pub fn audit(alloc: Global, file: &TraceFile) -> Result<Verdict, AllocError>
 ///
 /// # Errors
 /// `AllocError` where there is no memory.
-pub fn audit_watched<W: Watch>(
+pub(crate) fn audit_watched<W: Watch>(
     alloc: Global,
     file: &TraceFile,
     watch: &mut W,

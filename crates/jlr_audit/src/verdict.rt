@@ -20,7 +20,7 @@ pub enum Verdict {
 
 /// How many of the first entries are legal, one after the other, from this machine on. It is given up for what they
 /// leave.
-pub fn legal_front<W: Watch>(
+pub(crate) fn legal_front<W: Watch>(
     alloc: Global,
     machine: Machine,
     entries: &[Entry],

@@ -58,7 +58,7 @@ fn verdict_of_trace<R: Read + Drop, W: Watch>(
 /// # Errors
 /// `Unread` where a read fails, and `Damaged` with the first fault of all bytes, where they spell none, or where there
 /// is no memory.
-pub fn verdict_of<R: Read + Drop, W: Watch>(
+pub(crate) fn verdict_of<R: Read + Drop, W: Watch>(
     alloc: Global,
     reader: R,
     watch: &mut W,

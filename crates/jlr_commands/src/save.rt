@@ -113,7 +113,7 @@ pub fn save(rt: &HostRuntime, path: &str, bytes: &[u8]) -> Result<(), ProgramFau
 ///
 /// # Errors
 /// `CannotSave`, or `NoMemory`.
-pub fn try_save(rt: &HostRuntime, path: &str) -> Result<(), ProgramFault> {
+pub(crate) fn try_save(rt: &HostRuntime, path: &str) -> Result<(), ProgramFault> {
     told(rt.alloc(), path, try_put(rt, path))
 }
 

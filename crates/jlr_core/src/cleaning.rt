@@ -25,15 +25,11 @@ ghost use Rattle.jlr_state.specs.Rest.{LeavesRestMaking, LeavesSizes};
 
 use jlr_cells::Shape;
 use jlr_cleaner::Job;
-use jlr_machine::ask::{Answer, Ask, Outcome};
+use jlr_machine::ask::{Answer, Ask, CLEANER, Outcome};
 use jlr_machine::choice::Choice;
 use jlr_machine::object::Cleanable;
-use jlr_types::{ActionNo, Handle, Mutator, Refusal, Slot, Work};
-
-/// The taker of the actions that the cleaner takes up.
-const CLEANER: u8 = 255;
-
 use jlr_state::state::State;
+use jlr_types::{ActionNo, Handle, Mutator, Refusal, Slot, Work};
 
 pub(crate) fn make_cleaner<R>(
     state: &mut State<R>,

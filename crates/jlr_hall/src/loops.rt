@@ -15,13 +15,10 @@ use jlr_cleaner::Job;
 use jlr_device::Resource;
 use jlr_event::event::Reply;
 use jlr_log::Naming;
-use jlr_machine::ask::{Answer, Ask};
+use jlr_machine::ask::{Answer, Ask, CLEANER};
 use jlr_session::job::{carry_out, job_of};
 use jlr_types::Progress;
 use std::sync::{MutexGuard, Wait};
-
-/// In whose name the cleaner takes jobs up.
-const CLEANER: u8 = 255;
 
 impl<R: Drop, L: Naming + Limited> Hall<R, L> {
     /// Takes the lock once something is pending. None where the hall is to end.

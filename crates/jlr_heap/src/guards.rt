@@ -11,12 +11,9 @@ use crate::jobs::{Declined, Job, given_back, lent, taken};
 use crate::keeper::Keeper;
 use crate::told;
 use jlr_event::event::{Event, ended};
-use jlr_machine::ask::{Answer, Ask, CallOutcome};
+use jlr_machine::ask::{Answer, Ask, CLEANER, CallOutcome};
 use jlr_machine::text::WriteCount;
 use jlr_types::{ActionNo, Fault, Refusal};
-
-/// In whose name the cleaner's jobs end.
-const CLEANER: u8 = 255;
 
 /// How a call ended.
 fn call_ended(ended: Result<(), Fault>) -> CallOutcome

@@ -5,7 +5,7 @@ ghost use Rattle.jlr_plain.specs.Records.{entry_in};
 use crate::record::{Record, ShortAnswer, stand_in};
 use jlr_machine::ask::Answer;
 use jlr_machine::machine::Machine;
-use jlr_plain_asks::answers::replaying::{replay_counts, replay_reply};
+use jlr_plain_asks::answers::replies::{replay_counts, replay_reply};
 use std::alloc::{AllocError, Global};
 
 /// The answer of the entry that a record keeps, in the machine in which it came.

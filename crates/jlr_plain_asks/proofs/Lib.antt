@@ -3,3 +3,4 @@ pub mod Blanks
 pub mod Changing
 pub mod Orders
 pub mod Steps
+pub mod Short

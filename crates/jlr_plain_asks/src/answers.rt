@@ -2,5 +2,4 @@
 
 pub mod answers;
 pub mod handing;
-pub mod replaying;
 pub mod replies;

@@ -39,7 +39,7 @@ fn held(session: &Session, handle: Handle) -> Option<Slot>
 }
 
 /// The slot that a handle of a mutator stands for.
-pub fn named_slot(machine: &Machine, mutator: Mutator, handle: Handle) -> Option<Slot>
+pub(crate) fn named_slot(machine: &Machine, mutator: Mutator, handle: Handle) -> Option<Slot>
     ensures { result ≡ slot_named machine.now mutator handle }
 {
     match session_of(machine, mutator) {
@@ -79,7 +79,7 @@ pub fn reference_of(object: &Object) -> Option<Reference>
 }
 
 /// The members, if it is a queue.
-pub fn members_of(object: &Object) -> Option<&Items<Slot>>
+pub(crate) fn members_of(object: &Object) -> Option<&Items<Slot>>
     ensures { option_copied result ≡ as_members object.now }
 {
     match object {

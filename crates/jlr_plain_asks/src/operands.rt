@@ -1,15 +1,12 @@
-//! What an ask names: its mutator, its handles, its field and its name.
-ghost use Rattle.std.specs.Prelude.{◌≡◌, ◌==◌, cond, option_map, option_copied, None, Some, true, false};
+//! What an ask names: its handles, its field and its name.
+ghost use Rattle.std.specs.Prelude.{◌≡◌, option_map, option_copied, true, false};
 ghost use Rattle.jlr_types.specs.declared.FieldKind.TheVariants.{Int, Ref};
-ghost use Rattle.jlr_machine.specs.Refusals.{asker, operands, field_asked, name_asked};
+ghost use Rattle.jlr_machine.specs.Refusals.{operands, field_asked, name_asked};
 ghost use Rattle.jlr_plain_asks.specs.Fits.{operands_in};
 
 use jlr_machine::ask::Ask;
 use jlr_machine::text::Name;
-use jlr_types::{FieldKind, FieldNo, Handle, Mutator};
-
-/// Who takes up what the cleaner is to do.
-pub const CLEANER: u8 = 255;
+use jlr_types::{FieldKind, FieldNo, Handle};
 
 /// Which objects fit an operand.
 #[derive(Clone, Copy)]
@@ -46,66 +43,6 @@ pub struct FieldNamed {
     pub object: Handle,
     pub field: FieldNo,
     pub kind: FieldKind,
-}
-
-/// The mutator whose ask it is.
-pub fn asker_of(ask: &Ask) -> Option<Mutator>
-    ensures { result ≡ asker ask.now }
-{
-    match ask {
-        Ask::Join { mutator } => Some(*mutator),
-        Ask::Leave { mutator } => Some(*mutator),
-        Ask::New { mutator, .. } => Some(*mutator),
-        Ask::Put { mutator, .. } => Some(*mutator),
-        Ask::Get { mutator, .. } => Some(*mutator),
-        Ask::SetInt { mutator, .. } => Some(*mutator),
-        Ask::Int { mutator, .. } => Some(*mutator),
-        Ask::Dup { mutator, .. } => Some(*mutator),
-        Ask::Drop { mutator, .. } => Some(*mutator),
-        Ask::Same { mutator, .. } => Some(*mutator),
-        Ask::MakeRef { mutator, .. } => Some(*mutator),
-        Ask::Deref { mutator, .. } => Some(*mutator),
-        Ask::Refers { mutator, .. } => Some(*mutator),
-        Ask::Clear { mutator, .. } => Some(*mutator),
-        Ask::Enqueue { mutator, .. } => Some(*mutator),
-        Ask::Enqueued { mutator, .. } => Some(*mutator),
-        Ask::MakeQueue { mutator } => Some(*mutator),
-        Ask::Poll { mutator, .. } => Some(*mutator),
-        Ask::Remove { mutator, .. } => Some(*mutator),
-        Ask::MakeCleaner { mutator } => Some(*mutator),
-        Ask::Register { mutator, .. } => Some(*mutator),
-        Ask::Clean { mutator, .. } => Some(*mutator),
-        Ask::Prepare { mutator } => Some(*mutator),
-        Ask::Opened { mutator, .. } => Some(*mutator),
-        Ask::CheckOut { mutator, .. } => Some(*mutator),
-        Ask::CheckIn { mutator, .. } => Some(*mutator),
-        Ask::Close { mutator, .. } => Some(*mutator),
-        Ask::Finish { by, .. } => taker(*by),
-        Ask::Bind { mutator, .. } => Some(*mutator),
-        Ask::Find { mutator, .. } => Some(*mutator),
-        Ask::Unbind { mutator, .. } => Some(*mutator),
-        Ask::Names { mutator } => Some(*mutator),
-        Ask::Full { mutator, .. } => Some(*mutator),
-        Ask::Stat { mutator } => Some(*mutator),
-        Ask::Notes { mutator } => Some(*mutator),
-        Ask::Faults { mutator } => Some(*mutator),
-        Ask::HandOver => None,
-        Ask::TakeUp => None,
-        Ask::Begin => None,
-        Ask::Collect => None,
-        Ask::Abandon => None,
-        Ask::Array { mutator, .. } => Some(*mutator),
-    }
-}
-
-/// The mutator that took up a job, if it was not the cleaner.
-fn taker(by: u8) -> Option<Mutator>
-    ensures { result ≡ cond (by == 255) None (Some by) }
-{
-    if by == CLEANER {
-        return None;
-    }
-    Some(Mutator::new(by))
 }
 
 fn object(handle: Handle, fit: Fit) -> Named

@@ -19,10 +19,8 @@ use crate::lookups::{
     bound_slot, cleanable_in, guarded_cleanable, handle_is_free, named_field, named_guard,
     named_object, named_slot, resource_with, running_job, session_of,
 };
-use crate::operands::{
-    CLEANER, FieldNamed, Fit, Named, Operands, asker_of, field_of_ask, name_of, operands_of,
-};
-use jlr_machine::ask::Ask;
+use crate::operands::{FieldNamed, Fit, Named, Operands, field_of_ask, name_of, operands_of};
+use jlr_machine::ask::{Ask, CLEANER};
 use jlr_machine::machine::{Call, Job, Machine, ResourceState};
 use jlr_machine::object::{CleanState, Contents, Object};
 use jlr_types::{ActionNo, FieldKind, FieldValue, Handle, Mutator, Refusal, Slot};
@@ -93,7 +91,7 @@ fn lacks_session(machine: &Machine, ask: &Ask) -> bool
 {
     match ask {
         Ask::Join { mutator } => cannot_join(machine, *mutator),
-        _ => not_joined(machine, asker_of(ask)),
+        _ => not_joined(machine, ask.asker()),
     }
 }
 
@@ -118,7 +116,7 @@ fn any_missing(machine: &Machine, mutator: Mutator, operands: Operands) -> bool
 fn lacks_object(machine: &Machine, ask: &Ask) -> bool
     ensures { result ≡ applies machine.now ask.now NoHandle }
 {
-    match asker_of(ask) {
+    match ask.asker() {
         Some(mutator) => any_missing(machine, mutator, operands_of(ask)),
         None => false,
     }
@@ -168,7 +166,7 @@ fn any_wrong(machine: &Machine, mutator: Mutator, operands: Operands) -> bool
 fn is_wrong_kind(machine: &Machine, ask: &Ask) -> bool
     ensures { result ≡ applies machine.now ask.now WrongKind }
 {
-    match asker_of(ask) {
+    match ask.asker() {
         Some(mutator) => any_wrong(machine, mutator, operands_of(ask)),
         None => false,
     }
@@ -188,7 +186,7 @@ fn field_missing(machine: &Machine, mutator: Mutator, named: Option<FieldNamed>)
 fn lacks_field(machine: &Machine, ask: &Ask) -> bool
     ensures { result ≡ applies machine.now ask.now NoField }
 {
-    match asker_of(ask) {
+    match ask.asker() {
         Some(mutator) => field_missing(machine, mutator, field_of_ask(ask)),
         None => false,
     }
@@ -234,7 +232,7 @@ fn field_wrong(machine: &Machine, mutator: Mutator, named: Option<FieldNamed>) -
 fn is_wrong_type(machine: &Machine, ask: &Ask) -> bool
     ensures { result ≡ applies machine.now ask.now WrongType }
 {
-    match asker_of(ask) {
+    match ask.asker() {
         Some(mutator) => field_wrong(machine, mutator, field_of_ask(ask)),
         None => false,
     }
@@ -348,7 +346,7 @@ fn cleaner_runs(jobs: &[Job]) -> bool
 fn asker_calls(machine: &Machine, ask: &Ask) -> bool
     ensures { result ≡ some_and (has_call machine.now) (asker ask.now) }
 {
-    match asker_of(ask) {
+    match ask.asker() {
         Some(mutator) => calling(machine, mutator),
         None => false,
     }
@@ -432,7 +430,7 @@ fn wants_handle(machine: &Machine, ask: &Ask) -> bool
 fn no_handle_free(machine: &Machine, ask: &Ask) -> bool
     ensures { result ≡ some_and (λ k. not (has_free_handle machine.now k)) (asker ask.now) }
 {
-    match asker_of(ask) {
+    match ask.asker() {
         Some(mutator) => !handle_is_free(machine, mutator),
         None => false,
     }

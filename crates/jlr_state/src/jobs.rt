@@ -21,9 +21,6 @@ use jlr_machine::machine::Call;
 use jlr_machine::object::{CleanState, Cleanable};
 use jlr_types::{Mutator, Refusal, Slot};
 
-/// The taker of the actions that the cleaner takes up.
-const CLEANER: u8 = 255;
-
 impl<R> State<R> {
     ghost use Rattle.jlr_state.specs.Machines.{machine_of};
     ghost use Rattle.jlr_state.specs.Rest.{LeavesSizes};

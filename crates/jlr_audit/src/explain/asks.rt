@@ -1,7 +1,7 @@
 //! Asks and answers in words.
 use crate::names::ask_name;
 use jlr_machine::ask::{Answer, Ask, Handed};
-use jlr_plain_asks::operands::{Named, Operands, asker_of, name_of, operands_of};
+use jlr_plain_asks::operands::{Named, Operands, name_of, operands_of};
 use jlr_types::{FieldKind, Layout};
 use std::alloc::{AllocError, Global};
 use std::str;
@@ -67,7 +67,7 @@ pub(crate) fn ask_said(alloc: Global, ask: &Ask) -> Result<String, AllocError> {
         }
     }
     push_operand(alloc, &mut said, ask)?;
-    if let Some(mutator) = asker_of(ask) {
+    if let Some(mutator) = ask.asker() {
         let number = mutator.number();
         said.push_str(format!(in alloc; " of mutator {number}")?.as_str())?;
     }

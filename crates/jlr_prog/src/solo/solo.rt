@@ -19,16 +19,13 @@ use jlr_book::book::Book;
 use jlr_cleaner::Job;
 use jlr_device::Resource;
 use jlr_event::event::{Event, Reply, ended};
-use jlr_machine::ask::{Answer, Ask};
+use jlr_machine::ask::{Answer, Ask, CLEANER};
 use jlr_machine::data::CopyRoom;
 use jlr_session::job::{finish, job_of};
 use jlr_session::port::{Port, ReadRoom};
 use jlr_types::{Handle, Limits, Mutator, Refusal};
 use std::alloc::{AllocError, Global};
 use std::marker::Model;
-
-/// In whose name the cleaner takes jobs up.
-const CLEANER: u8 = 255;
 
 /// A book that one session has for itself: mutator 0 asks, and after each reply the handler and the cleaner do what is
 /// due. Contracts see the book.

@@ -1,5 +1,6 @@
 //! Asks, answers, choices and entries.
-ghost use Rattle.std.specs.Prelude.{◌<◌, ◌≤◌, length};
+ghost use Rattle.std.specs.Prelude.{◌<◌, ◌≤◌, IfSome, length};
+ghost use Rattle.jlr_machine.specs.Refusals.{asker};
 ghost use Rattle.jlr_trace_fields.specs.declared.version.Version.TheVariants.{Two};
 ghost use Rattle.jlr_trace_fields.specs.Spelling.{IsBytes, IsText};
 ghost use Rattle.jlr_trace_entries.specs.Asks.{AskFits, CallOutcomeFits};
@@ -77,12 +78,19 @@ fn new_in_range(mutator: Mutator, layout: &Layout)
     let _len = layout.len();
 }
 
+/// An ask that names nothing but its mutator.
+fn asker_in_range(ask: &Ask)
+    ensures { IfSome (asker ask.now) (λ mutator. mutator < 256) }
+{
+    if let Some(mutator) = ask.asker() {
+        mutator_in_range(mutator);
+    }
+}
+
 fn ask_in_range(ask: &Ask)
     ensures { AskFits Two ask.now }
 {
     match ask {
-        Ask::Join { mutator } => mutator_in_range(*mutator),
-        Ask::Leave { mutator } => mutator_in_range(*mutator),
         Ask::New { mutator, layout } => new_in_range(*mutator, layout),
         Ask::Put {
             mutator,
@@ -94,6 +102,11 @@ fn ask_in_range(ask: &Ask)
             let _field = field.number();
         }
         Ask::Get {
+            mutator,
+            object,
+            field,
+        }
+        | Ask::Int {
             mutator,
             object,
             field,
@@ -111,16 +124,9 @@ fn ask_in_range(ask: &Ask)
             let _field = field.number();
             let _value = *value;
         }
-        Ask::Int {
-            mutator,
-            object,
-            field,
-        } => {
-            on_object(*mutator, *object);
-            let _field = field.number();
-        }
-        Ask::Dup { mutator, object } => on_object(*mutator, *object),
-        Ask::Drop { mutator, object } => on_object(*mutator, *object),
+        Ask::Dup { mutator, object } | Ask::Drop { mutator, object } => on_object(
+            *mutator, *object,
+        ),
         Ask::Same {
             mutator,
             left,
@@ -132,19 +138,18 @@ fn ask_in_range(ask: &Ask)
             referent,
             queue,
         } => on_two(*mutator, *referent, *queue),
-        Ask::Deref { mutator, reference } => on_object(*mutator, *reference),
         Ask::Refers {
             mutator,
             reference,
             object,
         } => on_two(*mutator, *reference, *object),
-        Ask::Clear { mutator, reference } => on_object(*mutator, *reference),
-        Ask::Enqueue { mutator, reference } => on_object(*mutator, *reference),
-        Ask::Enqueued { mutator, reference } => on_object(*mutator, *reference),
-        Ask::MakeQueue { mutator } => mutator_in_range(*mutator),
-        Ask::Poll { mutator, queue } => on_object(*mutator, *queue),
-        Ask::Remove { mutator, queue } => on_object(*mutator, *queue),
-        Ask::MakeCleaner { mutator } => mutator_in_range(*mutator),
+        Ask::Deref { mutator, reference }
+        | Ask::Clear { mutator, reference }
+        | Ask::Enqueue { mutator, reference }
+        | Ask::Enqueued { mutator, reference } => on_object(*mutator, *reference),
+        Ask::Poll { mutator, queue } | Ask::Remove { mutator, queue } => on_object(
+            *mutator, *queue,
+        ),
         Ask::Register {
             mutator,
             cleaner,
@@ -155,17 +160,13 @@ fn ask_in_range(ask: &Ask)
             let _note = *note;
         }
         Ask::Clean { mutator, cleanable } => on_object(*mutator, *cleanable),
-        Ask::Prepare { mutator } => mutator_in_range(*mutator),
-        Ask::Opened {
-            mutator,
-            outcome: _,
-        } => mutator_in_range(*mutator),
-        Ask::CheckOut { mutator, guard } => on_object(*mutator, *guard),
+        Ask::CheckOut { mutator, guard } | Ask::Close { mutator, guard } => on_object(
+            *mutator, *guard,
+        ),
         Ask::CheckIn { mutator, outcome } => {
             mutator_in_range(*mutator);
             call_outcome_in_range(outcome);
         }
-        Ask::Close { mutator, guard } => on_object(*mutator, *guard),
         Ask::Finish {
             by,
             action,
@@ -182,28 +183,15 @@ fn ask_in_range(ask: &Ask)
             on_object(*mutator, *object);
             name.in_range();
         }
-        Ask::Find { mutator, name } => {
+        Ask::Find { mutator, name } | Ask::Unbind { mutator, name } => {
             mutator_in_range(*mutator);
             name.in_range();
         }
-        Ask::Unbind { mutator, name } => {
-            mutator_in_range(*mutator);
-            name.in_range();
-        }
-        Ask::Names { mutator } => mutator_in_range(*mutator),
-        Ask::Full { mutator, mode: _ } => mutator_in_range(*mutator),
-        Ask::Stat { mutator } => mutator_in_range(*mutator),
-        Ask::Notes { mutator } => mutator_in_range(*mutator),
-        Ask::Faults { mutator } => mutator_in_range(*mutator),
-        Ask::HandOver => {}
-        Ask::TakeUp => {}
-        Ask::Begin => {}
-        Ask::Collect => {}
-        Ask::Abandon => {}
         Ask::Array { mutator, length } => {
             mutator_in_range(*mutator);
             let _length = length.number();
         }
+        _ => asker_in_range(ask),
     }
 }
 

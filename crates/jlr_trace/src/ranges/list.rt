@@ -14,7 +14,7 @@ pub trait Ranged: Sized {
 }
 
 /// What the types of the items say of each.
-pub fn all_in_range<T: Ranged>(items: &[T])
+pub(crate) fn all_in_range<T: Ranged>(items: &[T])
     ensures { AllByRecursion T.Range items.now }
 {
     for item in items {

@@ -108,7 +108,7 @@ fn counts_in_range(machine: &Machine)
 }
 
 /// What the type of a machine says of the numbers in it.
-pub fn machine_in_range(machine: &Machine)
+pub(crate) fn machine_in_range(machine: &Machine)
     ensures { MachineRange machine.now }
 {
     all_in_range(machine.objects.as_slice());

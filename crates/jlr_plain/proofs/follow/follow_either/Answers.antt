@@ -1,4 +1,4 @@
-use Rattle.std.proofs.Common.{◌≡◌, ap, sym, ◌∙◌}
+use Rattle.std.proofs.Common.{ap, sym, ◌∙◌}
 use Rattle.jlr_machine.specs.Refusals.{is_refusal}
 use Rattle.jlr_plain.proofs.Records.{has_next_action}
 use Rattle.jlr_plain.proofs.follow.follow_either.Goals as goal
