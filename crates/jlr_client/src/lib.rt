@@ -7,6 +7,7 @@
 pub mod client;
 mod help;
 pub mod manual;
+mod outgoing;
 mod pipe;
 mod terminal;
 pub mod typed;
