@@ -11,16 +11,9 @@ use Rattle.jlr_client.specs.declared.manual.form.Form.{Form}
 use Rattle.jlr_client.specs.declared.manual.form.Form.TheVariants as form
 use Rattle.jlr_client.specs.declared.manual.operand.Operand.{Operand}
 use Rattle.jlr_client.specs.declared.manual.operand.Operand.TheVariants as operand
-use Rattle.jlr_client.specs.Forms.{word_of_form, operands_of, IsOperand, AreOperands, IsOfForm, FormsAreCommands}
+use Rattle.jlr_client.specs.Forms.{all_forms, word_of_form, operands_of, IsOperand, AreOperands, IsOfForm, FormsAreCommands}
 
-abbrev listed_forms : List Form
-listed_forms = form.New ∷ form.Array ∷ form.Put ∷ form.Get ∷ form.SetInt ∷ form.Int ∷ form.Dup ∷ form.Drop ∷
-    form.Same ∷ form.Soft ∷ form.Weak ∷ form.Phantom ∷ form.Deref ∷ form.Refers ∷ form.Clear ∷ form.Enqueue ∷
-    form.Enqueued ∷ form.Queue ∷ form.Poll ∷ form.Remove ∷ form.Cleaner ∷ form.Register ∷ form.Clean ∷ form.Open ∷
-    form.Connect ∷ form.Read ∷ form.Write ∷ form.Close ∷ form.Bind ∷ form.Find ∷ form.Unbind ∷ form.Names ∷ form.Gc ∷
-    form.GcSoft ∷ form.Stat ∷ form.Notes ∷ form.Faults ∷ form.Bye ∷ []
-
-pub each_form_is_listed : (f : Form) → Contains listed_forms f
+pub each_form_is_listed : (f : Form) → Contains all_forms f
 each_form_is_listed form.New = (0, omega arith, refl)
 each_form_is_listed form.Array = (1, omega arith, refl)
 each_form_is_listed form.Put = (2, omega arith, refl)

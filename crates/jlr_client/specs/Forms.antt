@@ -22,6 +22,14 @@ use Rattle.jlr_client.specs.declared.manual.operand.Operand.TheVariants.{Queue, 
 use Rattle.jlr_client.specs.declared.manual.operand.Operand.TheVariants.{Note, Mode}
 use Rattle.jlr_client.specs.declared.manual.operand.Operand.TheVariants.{Path, Count, Bytes, Name}
 
+-- in the order of the manual
+abbrev pub all_forms : List Form
+all_forms = form.New ∷ form.Array ∷ form.Put ∷ form.Get ∷ form.SetInt ∷ form.Int ∷ form.Dup ∷ form.Drop ∷
+    form.Same ∷ form.Soft ∷ form.Weak ∷ form.Phantom ∷ form.Deref ∷ form.Refers ∷ form.Clear ∷ form.Enqueue ∷
+    form.Enqueued ∷ form.Queue ∷ form.Poll ∷ form.Remove ∷ form.Cleaner ∷ form.Register ∷ form.Clean ∷ form.Open ∷
+    form.Connect ∷ form.Read ∷ form.Write ∷ form.Close ∷ form.Bind ∷ form.Find ∷ form.Unbind ∷ form.Names ∷ form.Gc ∷
+    form.GcSoft ∷ form.Stat ∷ form.Notes ∷ form.Faults ∷ form.Bye ∷ []
+
 -- the word of a form
 abbrev pub word_of_form : Form → List ℕ
 word_of_form form.New = codes "new"

@@ -1,6 +1,9 @@
 -- How the manual writes a form.
-use Rattle.std.specs.Prelude.{ℕ, List, ◌∷◌, ◌++◌, codes}
+use Rattle.std.specs.Prelude.{ℕ, Bool, ◌||◌, ◌&&◌, List, ◌∷◌, ◌++◌, codes, decimal}
 use Rattle.std.specs.List.{flat_map}
+use Rattle.std.specs.Str.{bytes_eq}
+use Rattle.jlr_types.specs.Numbers.{number_of}
+use Rattle.jlr_types.specs.declared.Refusal.{Refusal}
 use Rattle.jlr_client.specs.declared.manual.form.Form.{Form}
 use Rattle.jlr_client.specs.declared.manual.operand.Operand.{Operand}
 use Rattle.jlr_client.specs.declared.manual.operand.Operand.TheVariants as operand
@@ -34,3 +37,13 @@ operand_letters operands = flat_map (λ operand. 32 ∷ letter_of operand) opera
 -- the word of a form and its operands
 abbrev pub row_of : Form → List ℕ
 row_of form = word_of_form form ++ operand_letters (operands_of form)
+
+-- the number of each refusal after a space
+abbrev pub refusal_numbers : List Refusal → List ℕ
+refusal_numbers refusals = flat_map (λ refusal. 32 ∷ decimal (number_of refusal)) refusals
+
+-- a form is meant by its word, and `gc soft` by `gc` too
+abbrev pub is_meant_by : List ℕ → Form → Bool
+is_meant_by word form =
+    bytes_eq (word_of_form form) word
+    || (bytes_eq word (codes "gc") && bytes_eq (word_of_form form) (codes "gc soft"))

@@ -2,7 +2,7 @@
 ghost use Rattle.std.specs.Prelude.{◌≡◌};
 ghost use Rattle.std.specs.List.{Contains};
 ghost use Rattle.jlr_client.specs.declared.manual.form.Form.{Form as FormOf};
-ghost use Rattle.jlr_client.specs.Forms.{word_of_form, operands_of, first_ask, refusals_of};
+ghost use Rattle.jlr_client.specs.Forms.{all_forms, word_of_form, operands_of, first_ask, refusals_of};
 
 use crate::manual::operand::Operand;
 use jlr_machine::ask::AskKind;
@@ -91,7 +91,8 @@ pub enum Form {
 
 /// Each form, in the order of the manual.
 pub fn forms() -> &'static [Form]
-    ensures { (form : FormOf) → Contains result.now form }
+    ensures order { result.now ≡ all_forms }
+    ensures each { (form : FormOf) → Contains result.now form }
 {
     &[
         Form::New,

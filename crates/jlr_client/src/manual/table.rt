@@ -1,6 +1,7 @@
 //! The manual as text: the table of all forms, and the page of one.
 ghost use Rattle.std.specs.Prelude.{◌≡◌, IfOk, string_bytes};
-ghost use Rattle.jlr_client.specs.Rows.{row_of};
+ghost use Rattle.jlr_client.specs.Forms.{refusals_of};
+ghost use Rattle.jlr_client.specs.Rows.{is_meant_by, refusal_numbers, row_of};
 
 use crate::manual::form::{Form, forms};
 use crate::manual::operand::OPERANDS;
@@ -22,9 +23,12 @@ pub fn line_of(alloc: Global, form: Form) -> Result<String, AllocError>
 }
 
 /// The numbers of what a form may be refused, in the order of checking.
-fn numbers_of(alloc: Global, form: Form) -> Result<String, AllocError> {
+fn numbers_of(alloc: Global, form: Form) -> Result<String, AllocError>
+    ensures { IfOk result (λ numbers. string_bytes numbers ≡ refusal_numbers (refusals_of form)) }
+{
     let mut numbers = String::new(alloc);
-    for refusal in form.refusals() {
+    let refusals = form.refusals();
+    for refusal in refusals {
         let number = refusal.number();
         numbers.push_str(format!(in alloc; " {number}")?.as_str())?;
     }
@@ -101,7 +105,9 @@ fn push_page(alloc: Global, text: &mut String, form: Form) -> Result<(), AllocEr
 }
 
 /// Whether a form is meant by this word: its own, or the first of two.
-pub(crate) fn is_meant(form: Form, word: &[u8]) -> bool {
+pub(crate) fn is_meant(form: Form, word: &[u8]) -> bool
+    ensures { result ≡ is_meant_by word.now form }
+{
     let name = form.name().as_bytes();
     name == word || (word == b"gc".as_slice() && name == b"gc soft".as_slice())
 }
