@@ -112,10 +112,8 @@ impl Outgoing {
 
     /// Whether the server is to be told that no more comes: the input has ended, and all went. It is told once.
     pub fn ends(&mut self) -> bool
-        ensures { MatchBool result
-            ((self.old ≡ record { bytes = []; stage = Stage.Ended })
-            × (self.new ≡ record { bytes = []; stage = Stage.Told }))
-            (self.new ≡ self.old) }
+        ensures due { IsTrue result ↔ ((self.old.bytes ≡ []) × (self.old.stage ≡ Stage.Ended)) }
+        ensures told { MatchBool result (self.new ≡ record { bytes = []; stage = Stage.Told }) (self.new ≡ self.old) }
     {
         if self.stage == Stage::Ended && self.is_empty() {
             self.stage = Stage::Told;
