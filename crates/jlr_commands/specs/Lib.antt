@@ -1,3 +1,5 @@
 pub mod Ends
 pub mod Audits
 pub mod Saving
+pub mod Lines
+pub mod Stopping

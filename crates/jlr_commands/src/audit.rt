@@ -1,12 +1,15 @@
 //! The audit of a saved history: `refheap audit FILE`.
 ghost use Rattle.std.specs.Prelude.{◌≡◌, option_map, IfOk, IfErr, OnOk};
+ghost use Rattle.std.specs.Io.KnownBytes.{Appends};
 ghost use Rattle.jlr_audit.specs.Streams.{IsStreamVerdict};
 ghost use Rattle.jlr_trace.specs.Files.{file_read};
 ghost use Rattle.jlr_trace.specs.Streams.{FailsOn, AllAreBytes};
-ghost use Rattle.jlr_commands.specs.Audits.{IsStreamJudged, IsStreamDamage};
+ghost use Rattle.jlr_commands.specs.Audits.{IsStreamDamage, IsStreamJudged, IsStreamLegal, IsVerdictOutcome};
+ghost use Rattle.jlr_commands.specs.Audits.{number_of_version, verdict_line};
 
 use crate::history_file::{fault_of, opened};
 use crate::progress::Progress;
+use crate::text::write_text;
 use jlr_audit::explain::explainer::Explainer;
 use jlr_audit::streamed::audit_streamed;
 use jlr_audit::verdict::Verdict;
@@ -88,7 +91,9 @@ fn judged_file<R: Read + Drop, W: Watch>(
     }
 }
 
-fn version_number(version: Version) -> u8 {
+fn version_number(version: Version) -> u8
+    ensures { result ≡ number_of_version version }
+{
     match version {
         Version::One => 1,
         Version::Two => 2,
@@ -96,21 +101,22 @@ fn version_number(version: Version) -> u8 {
 }
 
 /// Writes the verdict and the version of the file, as one line.
-fn tell(alloc: Global, writer: &mut impl Write, judged: Judged) -> Result<(), ProgramFault> {
+fn tell<W: Write>(alloc: Global, writer: &mut W, judged: Judged) -> Result<(), ProgramFault>
+    ensures { OnOk result (Appends (W.contents writer.old) (W.contents writer.new) (verdict_line judged)) }
+{
     let entries = judged.entries;
     let version = version_number(judged.version);
     let line = match judged.verdict {
         Verdict::Legal => format!(in alloc; "legal {entries} version {version}\n")?,
         Verdict::Illegal(number) => format!(in alloc; "illegal {number} version {version}\n")?,
     };
-    if writer.write_all(line.as_bytes()).is_err() || writer.flush().is_err() {
-        return Err(ProgramFault::Write);
-    }
-    Ok(())
+    write_text(writer, line.as_str())
 }
 
 /// What a verdict is to the program.
-fn outcome_of(verdict: Verdict) -> Result<(), ProgramFault> {
+pub(crate) fn outcome_of(verdict: Verdict) -> Result<(), ProgramFault>
+    ensures { IsVerdictOutcome verdict result }
+{
     match verdict {
         Verdict::Legal => Ok(()),
         Verdict::Illegal(_) => Err(ProgramFault::Illegal),
@@ -118,19 +124,23 @@ fn outcome_of(verdict: Verdict) -> Result<(), ProgramFault> {
 }
 
 /// The verdict on a file, and why it is not legal, where that is asked for and it is not.
-fn explained(
-    rt: &HostRuntime,
+fn explained<R: Read + Drop, V: Watch + Drop>(
+    alloc: Global,
     asked: AuditOrder<'_>,
-) -> Result<(Judged, Result<Option<String>, AllocError>), ProgramFault> {
-    let alloc = rt.alloc();
-    let file = opened(rt, asked.file)?;
-    let mut progress = Progress::new(*rt);
+    reader: R,
+    watch: V,
+) -> Result<(Judged, Result<Option<String>, AllocError>), ProgramFault>
+    ensures verdict { IfOk result (λ x. IsStreamJudged (R.remaining reader) x.0) }
+{
+    let mut watch = watch;
     if !asked.explain {
-        let judged = judged_file(alloc, asked.file, file, &mut progress)?;
-        return Ok((judged, Ok(None)));
+        return match judged_file(alloc, asked.file, reader, &mut watch) {
+            Ok(judged) => Ok((judged, Ok(None))),
+            Err(fault) => Err(fault),
+        };
     }
-    let mut explainer = Explainer::new(alloc, progress);
-    match judged_file(alloc, asked.file, file, &mut explainer) {
+    let mut explainer = Explainer::new(alloc, watch);
+    match judged_file(alloc, asked.file, reader, &mut explainer) {
         Ok(judged) => {
             let said = explainer.said();
             if judged.verdict == Verdict::Legal {
@@ -159,19 +169,16 @@ fn beginning(alloc: Global, judged: Judged) -> Result<Option<String>, ProgramFau
 }
 
 /// Writes what is said of a verdict, as one line.
-fn explain(alloc: Global, writer: &mut impl Write, why: &str) -> Result<(), ProgramFault> {
+fn explain<W: Write>(alloc: Global, writer: &mut W, why: &str) -> Result<(), ProgramFault> {
     let line = format!(in alloc; "{why}\n")?;
-    if writer.write_all(line.as_bytes()).is_err() || writer.flush().is_err() {
-        return Err(ProgramFault::Write);
-    }
-    Ok(())
+    write_text(writer, line.as_str())
 }
 
 /// Writes the verdict, the version of the file and why it is not legal, as JSON in one line. No sentence has a
 /// character that JSON escapes.
-fn tell_json(
+fn tell_json<W: Write>(
     alloc: Global,
-    writer: &mut impl Write,
+    writer: &mut W,
     judged: Judged,
     why: &str,
 ) -> Result<(), ProgramFault> {
@@ -185,8 +192,53 @@ fn tell_json(
             "{{\"legal\":false,\"entry\":{number},\"entries\":{entries},\"before\":{base},\"version\":{version},\"why\":\"{why}\"}}\n"
         )?,
     };
-    if writer.write_all(line.as_bytes()).is_err() || writer.flush().is_err() {
-        return Err(ProgramFault::Write);
+    write_text(writer, line.as_str())
+}
+
+/// Audits what a reader gives, and writes the verdict; where it is to be explained, also why it is not legal. It ends
+/// well only where that spells a legal history.
+fn audit_over<R: Read + Drop, V: Watch + Drop, W: Write>(
+    alloc: Global,
+    asked: AuditOrder<'_>,
+    reader: R,
+    watch: V,
+    writer: &mut W,
+) -> Result<(), ProgramFault>
+    ensures { OnOk result (IsStreamLegal (R.remaining reader)) }
+{
+    let (judged, why) = match explained(alloc, asked, reader, watch) {
+        Ok(explained) => explained,
+        Err(fault) => return Err(fault),
+    };
+    tell_all(alloc, asked, judged, why, writer)?;
+    outcome_of(judged.verdict)
+}
+
+/// Writes what is asked for of a verdict.
+fn tell_all<W: Write>(
+    alloc: Global,
+    asked: AuditOrder<'_>,
+    judged: Judged,
+    why: Result<Option<String>, AllocError>,
+    writer: &mut W,
+) -> Result<(), ProgramFault> {
+    if asked.json {
+        let why = why?;
+        return tell_json(
+            alloc,
+            writer,
+            judged,
+            why.as_ref().map_or("", |why| why.as_str()),
+        );
+    }
+    tell(alloc, writer, judged)?;
+    if let Some(why) = why? {
+        explain(alloc, writer, why.as_str())?;
+    }
+    if asked.explain {
+        if let Some(beginning) = beginning(alloc, judged)? {
+            explain(alloc, writer, beginning.as_str())?;
+        }
     }
     Ok(())
 }
@@ -202,26 +254,6 @@ pub fn audit(
     asked: AuditOrder<'_>,
     writer: &mut impl Write,
 ) -> Result<(), ProgramFault> {
-    let alloc = rt.alloc();
-    let (judged, why) = explained(rt, asked)?;
-    if asked.json {
-        let why = why?;
-        tell_json(
-            alloc,
-            writer,
-            judged,
-            why.as_ref().map_or("", |why| why.as_str()),
-        )?;
-        return outcome_of(judged.verdict);
-    }
-    tell(alloc, writer, judged)?;
-    if let Some(why) = why? {
-        explain(alloc, writer, why.as_str())?;
-    }
-    if asked.explain {
-        if let Some(beginning) = beginning(alloc, judged)? {
-            explain(alloc, writer, beginning.as_str())?;
-        }
-    }
-    outcome_of(judged.verdict)
+    let file = opened(rt, asked.file)?;
+    audit_over(rt.alloc(), asked, file, Progress::new(*rt), writer)
 }

@@ -19,3 +19,4 @@ pub mod serve;
 pub mod session;
 pub mod stats;
 mod stop;
+mod text;

@@ -1,10 +1,12 @@
 //! Saved histories: a session whose history is kept, and the file that it goes to.
-ghost use Rattle.std.specs.Prelude.{◌≡◌, ◌≤◌, List, ℕ, length, IfOk, IsErr};
+ghost use Rattle.std.specs.Prelude.{◌≡◌, ◌≤◌, ◌⊎◌, ◌↔◌, List, ℕ, length, IfErr, IfOk, IsErr, IsErrAnd};
 ghost use Rattle.std.specs.Io.KnownBytes.{Appends, Consumes};
 ghost use Rattle.jlr_prog.specs.Books.{History};
 ghost use Rattle.jlr_prog.specs.Histories.{IsWholeSession};
-ghost use Rattle.jlr_commands.specs.Saving.{IsSaved};
+ghost use Rattle.jlr_commands.specs.Ends.{IsOutcome};
+ghost use Rattle.jlr_commands.specs.Saving.{IsSaved, IsUnsaved};
 ghost use Rattle.jlr_session.specs.Limits.{FindsEnd, most_bytes};
+ghost use Rattle.jlr_session.specs.declared.shell.SessionEnd.{SessionEnd};
 
 use crate::saved_file::{put, try_put};
 use crate::saving::file::trace_bytes_of;
@@ -89,11 +91,46 @@ pub fn session_saved<R: Read, W: Write, D: Device>(
 ) -> Result<(), ProgramFault>
 where
     D::Res: Drop,
+    ensures { (IsErrAnd result IsUnsaved × (reader.new ≡ reader.old) × (writer.new ≡ writer.old)
+        × (device.new ≡ device.old))
+        ⊎ ((end : SessionEnd) × (book : History D.Res) × (bytes : List ℕ) × (out : List ℕ)
+        × (IsErrAnd result IsUnsaved ⊎ IsOutcome end result)
+        × Consumes (R.remaining reader.old) (R.remaining reader.new) bytes
+        × Appends (W.contents writer.old) (W.contents writer.new) out
+        × (length bytes ≤ most_bytes)
+        × IsWholeSession (record {
+          count =
+              D.count;
+          opens = D.may_open;
+          connects = D.may_connect;
+          failures = D.Res.handling.count;
+        })
+        D.Res.handling
+        limits (FindsEnd (R.remaining reader.new) bytes) end bytes device.old out device.new book) }
 {
-    try_save(rt, path)?;
-    let Recording { end, history } = recorded(rt.alloc(), limits, reader, writer, device)?;
-    save(rt, path, history?.as_slice())?;
-    outcome_of(end)
+    match try_save(rt, path) {
+        Ok(()) => {}
+        Err(fault) => return Err(fault),
+    }
+    match recorded(rt.alloc(), limits, reader, writer, device) {
+        Ok(recording) => saved_end(rt, path, recording),
+        Err(fault) => Err(ProgramFault::NoMemory(fault)),
+    }
+}
+
+/// Saves the history of a session that has ended, and says what its end is to the program.
+fn saved_end(rt: &HostRuntime, path: &str, recording: Recording) -> Result<(), ProgramFault>
+    ensures { IsErrAnd result IsUnsaved ⊎ IsOutcome recording.end result }
+{
+    let Recording { end, history } = recording;
+    let bytes = match history {
+        Ok(bytes) => bytes,
+        Err(fault) => return Err(ProgramFault::NoMemory(fault)),
+    };
+    match save(rt, path, bytes.as_slice()) {
+        Ok(()) => outcome_of(end),
+        Err(fault) => Err(fault),
+    }
 }
 
 /// Saves bytes to a file: whole, or what stood there stays.
@@ -104,7 +141,9 @@ where
 ///
 /// # Errors
 /// `CannotSave`, or `NoMemory`.
-pub fn save(rt: &HostRuntime, path: &str, bytes: &[u8]) -> Result<(), ProgramFault> {
+pub fn save(rt: &HostRuntime, path: &str, bytes: &[u8]) -> Result<(), ProgramFault>
+    ensures { IfErr result IsUnsaved }
+{
     told(rt.alloc(), path, put(rt, path, bytes))
 }
 
@@ -113,12 +152,17 @@ pub fn save(rt: &HostRuntime, path: &str, bytes: &[u8]) -> Result<(), ProgramFau
 ///
 /// # Errors
 /// `CannotSave`, or `NoMemory`.
-pub(crate) fn try_save(rt: &HostRuntime, path: &str) -> Result<(), ProgramFault> {
+pub(crate) fn try_save(rt: &HostRuntime, path: &str) -> Result<(), ProgramFault>
+    ensures { IfErr result IsUnsaved }
+{
     told(rt.alloc(), path, try_put(rt, path))
 }
 
 /// What came of a save, told as the program tells it.
-fn told(alloc: Global, path: &str, done: io::Result<()>) -> Result<(), ProgramFault> {
+fn told(alloc: Global, path: &str, done: io::Result<()>) -> Result<(), ProgramFault>
+    ensures well { IsErr result ↔ IsErr done }
+    ensures fault { IfErr result IsUnsaved }
+{
     match done {
         Ok(()) => Ok(()),
         Err(error) if error.kind() == io::ErrorKind::OutOfMemory => {
@@ -129,7 +173,9 @@ fn told(alloc: Global, path: &str, done: io::Result<()>) -> Result<(), ProgramFa
 }
 
 /// That a history cannot be saved, or that memory for saying so ran out.
-fn unsaved(alloc: Global, path: &str, reason: Reason) -> ProgramFault {
+fn unsaved(alloc: Global, path: &str, reason: Reason) -> ProgramFault
+    ensures { IsUnsaved result }
+{
     match Place::new(alloc, path, reason) {
         Ok(place) => ProgramFault::CannotSave(place),
         Err(fault) => ProgramFault::NoMemory(fault),

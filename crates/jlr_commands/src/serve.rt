@@ -1,12 +1,15 @@
 //! A heap that clients share over a Unix socket: `refheap serve`.
-ghost use Rattle.std.specs.Prelude.{◌≡◌, ◌↔◌, IfOk, IfSome, IsSome, IsTrue};
+ghost use Rattle.std.specs.Prelude.{◌≡◌, ◌↔◌, IfOk, IfSome, IsSome, IsTrue, OnOk};
+ghost use Rattle.std.specs.Io.KnownBytes.{Appends};
 ghost use Rattle.jlr_prog.specs.Books.{last};
+ghost use Rattle.jlr_commands.specs.Lines.{counts_lines};
 ghost use Rattle.jlr_commands.specs.Saving.{IsSaved};
 
 use crate::descriptors::warn_of_few;
 use crate::reach::fenced;
 use crate::save::{save, try_save};
 use crate::saving::file::trace_bytes_of;
+use crate::text::write_text;
 use jlr_command_line::arguments::Service;
 use jlr_command_line::fault::ProgramFault;
 use jlr_command_line::reason::{Place, Reason};
@@ -231,11 +234,11 @@ fn unheard(alloc: Global, path: &str, reason: Reason) -> ProgramFault {
 }
 
 /// Writes the counts, a line each.
-fn tell(alloc: Global, writer: &mut impl Write, closed: &Closed) -> Result<(), ProgramFault> {
+fn tell<W: Write>(alloc: Global, writer: &mut W, closed: &Closed) -> Result<(), ProgramFault>
+    ensures { OnOk result (Appends (W.contents writer.old) (W.contents writer.new)
+        (counts_lines closed.now.accepts closed.now.entries)) }
+{
     let (accepts, entries) = (closed.accepts, closed.entries);
     let lines = format!(in alloc; "served {accepts}\nentries {entries}\n")?;
-    if writer.write_all(lines.as_bytes()).is_err() || writer.flush().is_err() {
-        return Err(ProgramFault::Write);
-    }
-    Ok(())
+    write_text(writer, lines.as_str())
 }

@@ -1,5 +1,11 @@
 //! The figures of a saved history: `refheap stats FILE`.
+ghost use Rattle.std.specs.Prelude.{IfErr, IfOk, option_map};
+ghost use Rattle.jlr_trace.specs.Files.{file_read};
+ghost use Rattle.jlr_trace.specs.Streams.{FailsOn};
+
+use crate::audit::outcome_of;
 use crate::history_file::{fault_of, opened};
+use crate::text::write_text;
 use jlr_audit::stats::figures::{Figures, Judged, figures_of};
 use jlr_audit::stats::json::json_of;
 use jlr_audit::stats::table::table_of;
@@ -21,7 +27,9 @@ fn told(alloc: Global, figures: &Figures, is_json: bool) -> Result<String, Alloc
 }
 
 /// Reads a history as it comes, and takes its figures.
-fn figures<R: Read + Drop>(alloc: Global, reader: R) -> Result<Judged, StreamFault> {
+fn figures<R: Read + Drop>(alloc: Global, reader: R) -> Result<Judged, StreamFault>
+    ensures { IfErr result (λ f. FailsOn f (option_map file_read (R.remaining reader))) }
+{
     match streamed_trace(alloc, reader) {
         Ok(trace) => figures_of(alloc, trace),
         Err(fault) => Err(fault),
@@ -53,11 +61,6 @@ pub fn stats(
     writer: &mut impl Write,
 ) -> Result<(), ProgramFault> {
     let (verdict, text) = read(rt, asked)?;
-    if writer.write_all(text.as_bytes()).is_err() || writer.flush().is_err() {
-        return Err(ProgramFault::Write);
-    }
-    match verdict {
-        Verdict::Legal => Ok(()),
-        Verdict::Illegal(_) => Err(ProgramFault::Illegal),
-    }
+    write_text(writer, text.as_str())?;
+    outcome_of(verdict)
 }

@@ -1,4 +1,7 @@
 //! Asking a server to end: `refheap stop`.
+ghost use Rattle.std.specs.Io.KnownBytes.{Consumes};
+ghost use Rattle.jlr_commands.specs.Stopping.{EndsWell, said_in};
+
 use jlr_command_line::fault::ProgramFault;
 use jlr_command_line::reason::{Place, Reason};
 use std::io::{ErrorKind, Read, Write};
@@ -26,23 +29,48 @@ pub fn stop(rt: &HostRuntime, control: &str) -> Result<(), ProgramFault> {
     };
     // A server that ends already may be gone before it takes the byte. What it said counts.
     let _ = (&stream).write_all(&[END]);
-    if says_ended(&stream) {
+    let mut server = &stream;
+    if says_ended(&mut server) {
         return Ok(());
     }
     Err(ProgramFault::NotEnded)
 }
 
+/// What a read gave.
+#[derive(Clone, Copy)]
+pub enum Heard {
+    /// A byte.
+    Said(u8),
+    /// Nothing yet, since a signal came between.
+    Nothing,
+    /// No more comes.
+    Over,
+}
+
+/// Reads a byte.
+fn read_byte<R: Read>(reader: &mut R) -> Heard
+    ensures { Consumes (R.remaining reader.old) (R.remaining reader.new) (said_in result) }
+{
+    let mut word = [0u8; 1];
+    match reader.read(&mut word) {
+        Ok(0) => Heard::Over,
+        Ok(_) => Heard::Said(word[0]),
+        Err(error) if error.kind() == ErrorKind::Interrupted => Heard::Nothing,
+        Err(_) => Heard::Over,
+    }
+}
+
 /// Whether a server says, before it goes, that it ended in order. One that goes before it has read what it was asked
 /// resets the connection behind that.
-fn says_ended(stream: &UnixStream) -> bool {
-    let mut word = [0u8; 1];
+fn says_ended<R: Read>(reader: &mut R) -> bool
+    ensures { EndsWell (R.remaining reader.old) (R.remaining reader.new) result }
+{
     let mut has_ended = false;
-    for _ in 0..MOST_READS {
-        match (&mut &*stream).read(&mut word) {
-            Ok(0) => break,
-            Ok(_) => has_ended = word[0] == ENDED,
-            Err(error) if error.kind() == ErrorKind::Interrupted => {}
-            Err(_) => break,
+    for _read in 0..MOST_READS {
+        match read_byte(reader) {
+            Heard::Said(byte) => has_ended = byte == ENDED,
+            Heard::Nothing => {}
+            Heard::Over => break,
         }
     }
     has_ended
