@@ -3,7 +3,7 @@ ghost use Rattle.std.specs.Prelude.{◌≡◌, ◌⊎◌, ◌≤◌, ◌<◌, �
 ghost use Rattle.std.specs.Prelude.{MatchOption, OnOk, OnErr, None, Some, vec_len, vec_capacity};
 ghost use Rattle.jlr_machine.specs.Data.{Brings};
 ghost use Rattle.jlr_machine.specs.Refusals.{is_end, refusal};
-ghost use Rattle.jlr_event.specs.Asks.{hands_in};
+ghost use Rattle.jlr_event.specs.Asks.{carries_none, hands_in};
 ghost use Rattle.jlr_event.specs.Events.{ask_of, said_by};
 ghost use Rattle.jlr_core.specs.Events.{handed_out, take_up_answered};
 ghost use Rattle.jlr_plain.specs.Records.{replayed};
@@ -195,23 +195,6 @@ impl<R: Drop> Book<R> {
         if self.image.is_behind() {
             self.follow_some();
         }
-        self.step_on(seat, event, room)
-    }
-
-    /// The image follows a few entries that a cut let go. Nothing of it is seen.
-    #[inline(never)]
-    fn follow_some(&mut self)
-        ensures { self.new ≡ self.old }
-    {
-        self.image.follow_some();
-    }
-
-    /// An event of a seat, without a look at the image.
-    #[inline(always)]
-    fn step_on(&mut self, seat: u8, event: Event<R>, room: Option<CopyRoom>) -> Reply<R>
-        requires { Brings room (ask_of event) }
-        ensures { BookSteps seat self.old event result self.new }
-    {
         let Event::Ask(ask) = event else {
             return self.step_with_resource(seat, event, room);
         };
@@ -225,26 +208,25 @@ impl<R: Drop> Book<R> {
         }
     }
 
-    /// What `step` does for an ask that hands in no resource, with its answer in the place of another. A resource that
-    /// is handed out with it is dropped.
+    /// The image follows a few entries that a cut let go. Nothing of it is seen.
+    #[inline(never)]
+    fn follow_some(&mut self)
+        ensures { self.new ≡ self.old }
+    {
+        self.image.follow_some();
+    }
+
+    /// What `step` does for an ask that carries no resource, neither in nor out, with its answer in the place of
+    /// another.
+    #[tactic(auto, using(jlr_event::proofs::Carrying::hands_nothing_in))]
     pub fn answer(&mut self, seat: u8, ask: Ask, answer: &mut Answer)
-        requires plain { hands_in ask ≡ false }
+        requires plain { carries_none ask ≡ true }
         ensures { (reply : Reply R) × BookSteps seat self.old (Event.Ask ask) reply self.new
             × (answer.new ≡ said_by reply) }
     {
         if self.image.is_behind() {
             self.follow_some();
         }
-        self.answer_on(seat, ask, answer);
-    }
-
-    /// The same, without a look at the image.
-    #[inline(always)]
-    fn answer_on(&mut self, seat: u8, ask: Ask, answer: &mut Answer)
-        requires plain { hands_in ask ≡ false }
-        ensures { (reply : Reply R) × BookSteps seat self.old (Event.Ask ask) reply self.new
-            × (answer.new ≡ said_by reply) }
-    {
         if let Some(ask) = self.try_in_place(seat, ask, answer) {
             self.step_slow(seat, ask).answer_into(answer);
         }

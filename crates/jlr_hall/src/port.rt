@@ -84,8 +84,8 @@ impl<'a, R: Drop, L: Naming + Limited, T: Wait, V: Vigil> SeatPort<'a, R, L, T, 
 impl<'a, R: Drop, L: Naming + Limited, T: Wait, V: Vigil> Port<R> for SeatPort<'a, R, L, T, V> {
     ghost use Rattle.jlr_machine.specs.declared.ask.Answer.TheVariants.{Refused};
     ghost use Rattle.jlr_machine.specs.Data.{Brings};
-    ghost use Rattle.std.specs.Prelude.{false};
-    ghost use Rattle.jlr_event.specs.Asks.{hands_in};
+    ghost use Rattle.std.specs.Prelude.{true};
+    ghost use Rattle.jlr_event.specs.Asks.{carries_none};
     ghost use Rattle.jlr_event.specs.Events.{ask_of, said_by};
     ghost use Rattle.jlr_event.specs.declared.event.Event.TheVariants.{Ask as Asks};
     ghost use Rattle.jlr_event.specs.declared.event.Reply.TheVariants.{Answered};
@@ -122,8 +122,9 @@ impl<'a, R: Drop, L: Naming + Limited, T: Wait, V: Vigil> Port<R> for SeatPort<'
         self.ask_once(event, room)
     }
 
+    #[tactic(auto, using(jlr_event::proofs::Carrying::hands_nothing_in))]
     fn answer(&mut self, ask: Ask, answer: &mut Answer)
-        requires plain { hands_in ask ≡ false }
+        requires plain { carries_none ask ≡ true }
         ensures answered { (reply : Reply R) × Asked L.limits self.old (Asks ask) reply self.new
             × (answer.new ≡ said_by reply) }
         ensures named { self.new.seat ≡ self.old.seat }

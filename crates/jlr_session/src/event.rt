@@ -1,7 +1,7 @@
 //! The ask of a command that asks once.
-ghost use Rattle.std.specs.Prelude.{◌≡◌, false, IfSome};
+ghost use Rattle.std.specs.Prelude.{◌≡◌, true, IfSome};
 ghost use Rattle.jlr_machine.specs.declared.ask.Ask.TheVariants.{MakeRef};
-ghost use Rattle.jlr_event.specs.Asks.{hands_in};
+ghost use Rattle.jlr_event.specs.Asks.{carries_none};
 ghost use Rattle.jlr_session.specs.Asks.{ask_by};
 
 use jlr_machine::ask::Ask;
@@ -13,7 +13,7 @@ use jlr_wire::command::Command;
 #[inline(always)]
 pub(crate) fn ask_for(mutator: Mutator, command: &Command<'_>) -> Option<Ask>
     ensures ask { result ≡ ask_by mutator command.now }
-    ensures plain { IfSome result (λ ask. hands_in ask ≡ false) }
+    ensures plain { IfSome result (λ ask. carries_none ask ≡ true) }
 {
     Some(match *command {
         Command::New { ref layout } => Ask::New {

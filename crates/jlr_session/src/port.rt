@@ -27,10 +27,10 @@ impl ReadRoom {
 
 /// What answers the asks of one mutator: a heap, or a seat at a heap that others share.
 pub trait Port<R> {
-    ghost use Rattle.std.specs.Prelude.{◌≡◌, IfErr, None, false};
+    ghost use Rattle.std.specs.Prelude.{◌≡◌, IfErr, None, true};
     ghost use Rattle.jlr_machine.specs.Data.{Brings};
     ghost use Rattle.jlr_machine.specs.declared.ask.Answer.TheVariants.{Refused};
-    ghost use Rattle.jlr_event.specs.Asks.{hands_in};
+    ghost use Rattle.jlr_event.specs.Asks.{carries_none};
     ghost use Rattle.jlr_event.specs.Events.{ask_of, said_by};
     ghost use Rattle.jlr_machine.specs.declared.ask.Ask.TheVariants.{CheckOut};
     ghost use Rattle.jlr_event.specs.declared.event.Event.TheVariants.{Ask as Asks};
@@ -59,10 +59,9 @@ pub trait Port<R> {
         ensures asked { asking.asks self.old event result self.new }
         ensures named { asking.mutator self.new ≡ asking.mutator self.old };
 
-    /// Asks what hands in no resource, and puts the answer in the place of another. A resource that is handed out with
-    /// it is dropped.
+    /// Asks what carries no resource, neither in nor out, and puts the answer in the place of another.
     fn answer(&mut self, ask: Ask, answer: &mut Answer)
-        requires plain { hands_in ask ≡ false }
+        requires plain { carries_none ask ≡ true }
         ensures answered { (reply : Reply R) × asking.asks self.old (Asks ask) reply self.new
             × (answer.new ≡ said_by reply) }
         ensures named { asking.mutator self.new ≡ asking.mutator self.old };

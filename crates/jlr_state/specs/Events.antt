@@ -1,10 +1,10 @@
 -- What an event and its reply are to the machine.
-use Rattle.std.specs.Prelude.{◌≡◌, ◌<◌, ◌≤◌, ◌^◌, Bool, Option, Some, None, false, length, true}
+use Rattle.std.specs.Prelude.{◌≡◌, ◌<◌, ◌≤◌, ◌^◌, Option, Some, None, length}
 use Rattle.jlr_types.specs.declared.Refusal.TheVariants.{NoMemory}
 use Rattle.jlr_machine.specs.declared.machine.Machine.{Machine}
 use Rattle.jlr_machine.specs.declared.ask.Ask.{Ask}
-use Rattle.jlr_machine.specs.declared.ask.Ask.TheVariants.{Array, Bind, CheckIn, CheckOut, Clean, Close, Faults, Names}
-use Rattle.jlr_machine.specs.declared.ask.Ask.TheVariants.{Notes, Opened, Prepare, TakeUp}
+use Rattle.jlr_machine.specs.declared.ask.Ask.TheVariants.{Array, Bind, Faults, Names}
+use Rattle.jlr_machine.specs.declared.ask.Ask.TheVariants.{Notes, Prepare}
 use Rattle.jlr_machine.specs.declared.ask.Answer.{Answer}
 use Rattle.jlr_machine.specs.declared.ask.Answer.TheVariants.{Refused}
 use Rattle.jlr_machine.specs.Chosen.{Chosen}
@@ -12,19 +12,10 @@ use Rattle.jlr_machine.specs.declared.entry.Entry.{Entry}
 use Rattle.jlr_machine.specs.Lookups.{slot_bound}
 use Rattle.jlr_machine.specs.Refusals.{refusal}
 use Rattle.jlr_machine.specs.Run.{no_choice, IsLegal, apply}
+pub use Rattle.jlr_event.specs.Asks.{carries_none}
 use Rattle.jlr_marks.specs.Marking.{Marking}
 use Rattle.jlr_resource.specs.Resources.{Resources, resources}
 use Rattle.jlr_state.specs.State.{MeetsAsk, entry_of}
-
--- an ask that carries no resource, neither in nor out
-abbrev pub carries_none : Ask → Bool
-carries_none (Clean k c) = false
-carries_none (Opened k outcome) = false
-carries_none (CheckOut k h) = false
-carries_none (CheckIn k outcome) = false
-carries_none (Close k h) = false
-carries_none TakeUp = false
-carries_none ask = true
 
 -- the table has room for one resource more, in a place that has a number
 abbrev pub TableHasRoom : {R : Type 0} → Resources R → Type 0

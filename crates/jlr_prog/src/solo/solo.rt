@@ -1,8 +1,8 @@
 //! A book that one session has for itself, as what its asks go to.
-ghost use Rattle.std.specs.Prelude.{◌≡◌, ◌≢◌, ◌<◌, false, [], IfErr, IfOk, MatchBool, None, length};
+ghost use Rattle.std.specs.Prelude.{◌≡◌, ◌≢◌, ◌<◌, false, true, [], IfErr, IfOk, MatchBool, None, length};
 ghost use Rattle.jlr_machine.specs.Data.{Brings, tells_data};
 ghost use Rattle.jlr_machine.specs.declared.ask.Answer.TheVariants.{Refused};
-ghost use Rattle.jlr_event.specs.Asks.{hands_in};
+ghost use Rattle.jlr_event.specs.Asks.{carries_none};
 ghost use Rattle.jlr_event.specs.Events.{ask_of, said_by};
 ghost use Rattle.jlr_machine.specs.declared.ask.Ask.TheVariants.{CheckOut, HandOver};
 ghost use Rattle.jlr_event.specs.declared.event.Event.TheVariants.{Ask as Asks};
@@ -240,7 +240,7 @@ impl<R: Resource + Drop> Port<R> for Solo<R> {
     }
 
     fn answer(&mut self, ask: Ask, answer: &mut Answer)
-        requires plain { hands_in ask ≡ false }
+        requires plain { carries_none ask ≡ true }
         ensures answered { (reply : Reply R) × BookSteps 0 self.old (Asks ask) reply self.new
             × (answer.new ≡ said_by reply) }
         ensures named { (by_book R.handling).mutator self.new ≡ (by_book R.handling).mutator self.old }

@@ -1,0 +1,2 @@
+-- Laws of asks and the resources that they carry.
+pub mod Carrying
