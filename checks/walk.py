@@ -1,0 +1,83 @@
+#!/usr/bin/env python3
+"""Counts the functions through which `weak 1 0` goes in a session of its own, and their files and crates, by callgrind (valgrind).
+
+    checks/walk.py PROGRAM [--list]
+
+The program is to be built without inlining, in crates/refheap: rt run --backend rattle --opt-level 0 -- run --cells 16 < /dev/null
+Counted is each function of the repository that a session calls more often where it has one such command more. Functions of the libraries are left out.
+--list names each with how often it is called.
+"""
+import argparse
+import glob
+import os
+import re
+import subprocess
+import tempfile
+
+ROOT = os.path.join(os.path.dirname(os.path.abspath(__file__)), "..")
+STAGE = ["queue", "new -", "weak 2 1", "weak 2 0"]
+CALLED = re.compile(r"c?fn=\((\d+)\)(?: (.*))?")
+
+
+def calls(program, lines):
+    """How often a session of these lines calls each function."""
+    with tempfile.TemporaryDirectory() as room:
+        out = os.path.join(room, "counts")
+        command = ["valgrind", "--tool=callgrind", f"--callgrind-out-file={out}", program, "run", "--cells", "1024"]
+        text = "".join(f"{line}\n" for line in [*lines, "bye"])
+        subprocess.run(command, input=text, text=True, stdout=subprocess.DEVNULL, stderr=subprocess.DEVNULL, check=True)
+        names, counts, callee = {}, {}, None
+        with open(out, encoding="utf-8", errors="replace") as file:
+            for line in file:
+                named = CALLED.match(line)
+                if named:
+                    name = names.setdefault(named[1], named[2])
+                    callee = name if line.startswith("c") else callee
+                elif line.startswith("calls="):
+                    counts[callee] = counts.get(callee, 0) + int(line[6:].split()[0])
+        return counts
+
+
+def plain(name):
+    """The path of a function, without the types that it is made for; none where it is no function of the repository."""
+    path = re.sub(r"::<.*", "", name.lstrip("<"))
+    crate = path.partition("::")[0]
+    return path if os.path.isdir(os.path.join(ROOT, "crates", crate)) else None
+
+
+def file_of(path):
+    """The file in which a function stands: that of the longest front of its path that is a module, or another of its crate that has its name."""
+    crate, *words = path.split("::")
+    source = os.path.join(ROOT, "crates", crate, "src")
+    modules = [os.path.join(source, *words[:length]) + ".rt" for length in range(len(words), 0, -1)]
+    first = next(filter(os.path.isfile, modules), os.path.join(source, "lib.rt"))
+    others = sorted(glob.glob(os.path.join(source, "**", "*.rt"), recursive=True))
+    made = re.compile(rf"\bfn {re.escape(words[-1])}\b")
+    for file in [first, *others]:
+        with open(file, encoding="utf-8") as text:
+            if made.search(text.read()):
+                return os.path.relpath(file, os.path.join(ROOT, "crates"))
+    return os.path.relpath(first, os.path.join(ROOT, "crates"))
+
+
+def main():
+    parser = argparse.ArgumentParser(usage="checks/walk.py PROGRAM [--list]")
+    parser.add_argument("program")
+    parser.add_argument("--list", action="store_true")
+    asked = parser.parse_args()
+    once, twice = (calls(asked.program, STAGE + ["weak 2 0"] * count) for count in (1, 2))
+    walk = {}
+    for name, count in twice.items():
+        path, more = plain(name), count - once.get(name, 0)
+        if path and more > 0:
+            walk[path] = walk.get(path, 0) + more
+    files = {file_of(path) for path in walk}
+    crates = {path.partition("::")[0] for path in walk}
+    if asked.list:
+        for path, count in sorted(walk.items()):
+            print(f"{count:5}  {path}  {file_of(path)}")
+    print(f"{len(walk)} functions in {len(files)} files of {len(crates)} crates")
+
+
+if __name__ == "__main__":
+    main()
