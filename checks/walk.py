@@ -4,7 +4,8 @@
     checks/walk.py PROGRAM [--list]
 
 The program is to be built without inlining, in crates/refheap: rt run --backend rattle --opt-level 0 -- run --cells 16 < /dev/null
-Counted is each function of the repository that a session calls more often where it has one such command more. Functions of the libraries are left out.
+Counted is each function of the repository that a session calls more often where it has one such command more. Functions of the libraries, drops
+and closures are left out.
 --list names each with how often it is called.
 """
 import argparse
@@ -39,10 +40,11 @@ def calls(program, lines):
 
 
 def plain(name):
-    """The path of a function, without the types that it is made for; none where it is no function of the repository."""
-    path = re.sub(r"::<.*", "", name.lstrip("<"))
+    """The path of a function, without the types that it is made for; none where it is no function of the repository, or a drop or closure."""
+    path = re.sub(r"::<.*", "", name)
     crate = path.partition("::")[0]
-    return path if os.path.isdir(os.path.join(ROOT, "crates", crate)) else None
+    is_ours = os.path.isdir(os.path.join(ROOT, "crates", crate))
+    return path if is_ours and "+" not in path and "::fn::" not in path else None
 
 
 def file_of(path):
