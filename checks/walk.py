@@ -4,39 +4,21 @@
     checks/walk.py PROGRAM [--list]
 
 The program is to be built without inlining, in crates/refheap: rt run --backend rattle --opt-level 0 -- run --cells 16 < /dev/null
-Counted is each function of the repository that a session calls more often where it has one such command more. Functions of the libraries, drops
-and closures are left out.
---list names each with how often it is called.
+Counted is each function of the repository in which a session takes more instructions where it has one such command more
+(bench/instructions.py). Functions of the libraries, drops and closures are left out. --list names each.
 """
 import argparse
 import glob
 import os
 import re
-import subprocess
-import tempfile
+import sys
 
 ROOT = os.path.join(os.path.dirname(os.path.abspath(__file__)), "..")
+sys.path.append(os.path.join(ROOT, "bench"))
+
+from instructions import counted, more
+
 STAGE = ["queue", "new -", "weak 2 1", "weak 2 0"]
-CALLED = re.compile(r"c?fn=\((\d+)\)(?: (.*))?")
-
-
-def calls(program, lines):
-    """How often a session of these lines calls each function."""
-    with tempfile.TemporaryDirectory() as room:
-        out = os.path.join(room, "counts")
-        command = ["valgrind", "--tool=callgrind", f"--callgrind-out-file={out}", program, "run", "--cells", "1024"]
-        text = "".join(f"{line}\n" for line in [*lines, "bye"])
-        subprocess.run(command, input=text, text=True, stdout=subprocess.DEVNULL, stderr=subprocess.DEVNULL, check=True)
-        names, counts, callee = {}, {}, None
-        with open(out, encoding="utf-8", errors="replace") as file:
-            for line in file:
-                named = CALLED.match(line)
-                if named:
-                    name = names.setdefault(named[1], named[2])
-                    callee = name if line.startswith("c") else callee
-                elif line.startswith("calls="):
-                    counts[callee] = counts.get(callee, 0) + int(line[6:].split()[0])
-        return counts
 
 
 def plain(name):
@@ -67,17 +49,13 @@ def main():
     parser.add_argument("program")
     parser.add_argument("--list", action="store_true")
     asked = parser.parse_args()
-    once, twice = (calls(asked.program, STAGE + ["weak 2 0"] * count) for count in (1, 2))
-    walk = {}
-    for name, count in twice.items():
-        path, more = plain(name), count - once.get(name, 0)
-        if path and more > 0:
-            walk[path] = walk.get(path, 0) + more
+    once, twice = (counted(asked.program, ["--cells", "1024"], STAGE + ["weak 2 0"] * count) for count in (1, 2))
+    walk = {plain(name) for name, count in more(twice, once).items() if name and count > 0} - {None}
     files = {file_of(path) for path in walk}
     crates = {path.partition("::")[0] for path in walk}
     if asked.list:
-        for path, count in sorted(walk.items()):
-            print(f"{count:5}  {path}  {file_of(path)}")
+        for path in sorted(walk):
+            print(f"{path}  {file_of(path)}")
     print(f"{len(walk)} functions in {len(files)} files of {len(crates)} crates")
 
 
