@@ -4,12 +4,14 @@
     checks/saved.py [PROGRAM] [SESSIONS] [SEED]
 
 SESSIONS is 1,000 where nothing is said. A saved history is `legal N version 2`, N its entries. A changed one is legal, illegal or damaged, with status 0, 3 or 4, and no
-crash; how often which is printed. Before, saves that have to fail, those over what stands there and at places of every kind, and those of servers.
+crash; how often which is printed. Before, saves that have to fail, those over what stands there and at places of every kind, those of sessions that cannot read or
+write, and those of servers. As root, and where the kernel protects links, it saves as nobody through a link of another user's.
 """
 import collections
 import os
 import random
 import resource
+import shutil
 import signal
 import socket
 import stat
@@ -311,9 +313,10 @@ def try_places(program):
 
 def saves(program, folder, path, before=None, **how):
     """A session of one command that is saved: its status, and what it wrote."""
-    how = {"stdout": subprocess.PIPE, "stderr": subprocess.PIPE, "timeout": 60, **how}
+    given = {} if "stdin" in how else {"input": b"new -\n"}
+    how = {"stdout": subprocess.PIPE, "stderr": subprocess.PIPE, "timeout": 60, **given, **how}
     words = [program, "run", "--cells", "16", "--save", path]
-    done = subprocess.run(words, input=b"new -\n", cwd=folder, preexec_fn=before, **how)
+    done = subprocess.run(words, cwd=folder, preexec_fn=before, **how)
     return done.returncode, done.stdout, done.stderr
 
 
@@ -333,6 +336,29 @@ def is_history(program, folder, data):
 def contents(path):
     with open(path, "rb") as file:
         return file.read()
+
+
+def put_old(path):
+    with open(path, "wb") as file:
+        file.write(b"old")
+
+
+def try_faults(program):
+    """A session that cannot write its replies, or cannot read its lines, is saved too: anew, and over what stood there."""
+    with tempfile.TemporaryDirectory() as folder:
+        for which in "a first", "a second":
+            with open("/dev/full", "wb") as full:
+                told = saves(program, folder, "unwritten", stdout=full)
+            wants(f"{which} session whose output is full", told, (1, None, b"refheap: write failed\n"))
+            wants("is saved, and legal", audit(program, "unwritten", folder), (0, "legal 3 version 2\n", ""))
+            inner = os.open(folder, os.O_RDONLY)
+            told = saves(program, folder, "unread", stdin=inner)
+            os.close(inner)
+            wants(f"{which} session whose input is a directory", told, (1, b"", b"refheap: read failed\n"))
+            wants("is saved, and legal too", audit(program, "unread", folder), (0, "legal 2 version 2\n", ""))
+            wants("no other file is left", sorted(os.listdir(folder)), ["unread", "unwritten"])
+            for path in "unwritten", "unread":
+                put_old(os.path.join(folder, path))
 
 
 class Watch(threading.Thread):
@@ -442,6 +468,44 @@ def try_links(program):
             cannot_save(f"no save through {path}", saves(program, folder, path), path, b"")
         wants("no new file is left", sorted(os.listdir(there("a"))), ["b", "file", "third"])
         wants("nor above", [name for name in os.listdir(folder) if "new" in name], [])
+
+
+NOBODY, ANOTHER = 65_534, 1
+
+
+def are_links_protected():
+    """Whether the kernel lets nobody follow a link of another user's in a folder that all may write to, with the sticky bit."""
+    try:
+        return contents("/proc/sys/fs/protected_symlinks").strip() == b"1"
+    except FileNotFoundError:
+        return False
+
+
+def try_strange_links(program):
+    """A save does not go through a link that the kernel does not let the saver follow, and what it leads to stays."""
+    if os.geteuid() != 0 or not are_links_protected():
+        print("left    a link of another user's: it wants root, and a kernel that protects links")
+        return
+    with tempfile.TemporaryDirectory() as folder:
+        there = lambda name: os.path.join(folder, name)
+        os.chmod(folder, 0o755)
+        shutil.copy(program, there("program"))
+        os.chmod(there("program"), 0o755)
+        os.mkdir(there("own"))
+        put_old(there("own/file"))
+        for path in there("own"), there("own/file"):
+            os.chown(path, NOBODY, NOBODY)
+        os.mkdir(there("all"))
+        os.chmod(there("all"), 0o1777)
+        save = lambda path: saves(there("program"), folder, path, user=NOBODY, group=NOBODY, extra_groups=[])
+        for owner in ANOTHER, NOBODY:
+            os.symlink("../own/file", there(f"all/{owner}"))
+            os.lchown(there(f"all/{owner}"), owner, owner)
+        cannot_save("no save through a link of another user's", save(f"all/{ANOTHER}"), f"all/{ANOTHER}", b"")
+        wants("what it leads to stays", contents(there("own/file")), b"old")
+        wants("no new file is left", (os.listdir(there("own")), sorted(os.listdir(there("all")))), (["file"], sorted([str(ANOTHER), str(NOBODY)])))
+        wants("a save there through a link of one's own", save(f"all/{NOBODY}"), (0, b"= 1\n", b""))
+        wants("its file is new", is_saved(program, folder, "own/file"), True)
 
 
 def try_descriptors(program):
@@ -585,9 +649,11 @@ def main():
     seed = sys.argv[3] if len(sys.argv) > 3 else "1"
     try:
         try_places(program)
+        try_faults(program)
         try_rights(program)
         try_names(program)
         try_links(program)
+        try_strange_links(program)
         try_descriptors(program)
         try_pipes(program)
         try_mounts(program)
