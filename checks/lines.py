@@ -86,25 +86,30 @@ def byte_by_byte(checks):
 
 
 def streamed(checks, name, pieces, count, end):
-    """A long input, sent while the replies are read: `count` says how many there are of which."""
-    process = subprocess.Popen([checks.program, "run", "--cells", "16"], stdin=subprocess.PIPE, stdout=subprocess.PIPE, stderr=subprocess.PIPE)
+    """A long input, sent while the replies are read: `count` says how many there are of which. However it ends, it is saved, and legal."""
+    with tempfile.TemporaryDirectory() as folder:
+        saved = os.path.join(folder, "saved")
+        process = subprocess.Popen([checks.program, "run", "--cells", "16", "--save", saved],
+                                   stdin=subprocess.PIPE, stdout=subprocess.PIPE, stderr=subprocess.PIPE)
 
-    def send():
-        try:
-            for piece in pieces:
-                process.stdin.write(piece)
-            process.stdin.close()
-        except BrokenPipeError:
-            pass
+        def send():
+            try:
+                for piece in pieces:
+                    process.stdin.write(piece)
+                process.stdin.close()
+            except BrokenPipeError:
+                pass
 
-    sender = threading.Thread(target=send)
-    sender.start()
-    seen = {}
-    for line in process.stdout:
-        seen[line] = seen.get(line, 0) + 1
-    sender.join()
-    said = process.stderr.read()
-    checks.said(name, (seen, process.wait(), said), (count, *end))
+        sender = threading.Thread(target=send)
+        sender.start()
+        seen = {}
+        for line in process.stdout:
+            seen[line] = seen.get(line, 0) + 1
+        sender.join()
+        said = process.stderr.read()
+        status = process.wait()
+        verdict = subprocess.run([checks.program, "audit", saved], capture_output=True).stdout
+        checks.said(name, (seen, status, said, verdict), (count, *end, b"legal 2 version 2\n"))
 
 
 def bounds(checks):
