@@ -11,6 +11,9 @@ Then the session is run once more:
 - a command that is refused with `! 1` is sent a second time. It has changed nothing, so all that follows is as with ample memory;
 - after a settling that was cut short comes a command that does nothing. The settling that follows its reply does what was left, so all that
   follows is as with ample memory.
+
+Then sessions that are saved, over an older file and where none is. A run that ends as its session does, or whose join is refused, has saved a
+legal history. Any other ends with status 5 and `no memory`, or with status 2, and what stood there stays, byte for byte.
 """
 import argparse
 import os
@@ -99,6 +102,12 @@ SESSIONS = [
     Session("", "queue; new -; 1 to 40: weak 2 1; drop 2; gc; 1 to 40: poll 1 / drop 2; poll 1",
             "= 1; = 2; 3 to 42: = {}; ok; ok; 1 to 40: = 2 / ok; = 0"),
 ]
+SAVED = [
+    Session("--cells 16 --save saved", "new -; weak 1 0; drop 1; gc; deref 2", "= 1; = 2; ok; ok; = 0"),
+    Session("--cells 16 --save saved", "new -; same 0 0", "= 1; ! 15", last="", status=4),
+    Session("--cells 64 --trace 64 --save saved", "array 40; bind a 1; 1 to 70: stat", "= 1; ok; 1 to 70: stat 1 0 0 0 0"),
+]
+OLDER = b"older"
 
 
 class Wrong(Exception):
@@ -106,7 +115,7 @@ class Wrong(Exception):
 
 
 class Run:
-    """What a run of the program said: its replies, how many of them went out before the refused allocation, and its status."""
+    """What a run of the program said: its replies, how many of them went out before the refused allocation, what it told, and its status."""
 
     def __init__(self, program, library, folder, session, commands, number):
         environment = dict(os.environ, LD_PRELOAD=library, REFUSED=str(number))
@@ -116,6 +125,7 @@ class Run:
         self.was_refused = SAID in lines
         self.before = lines.index(SAID) if self.was_refused else len(lines)
         self.replies = [line for line in lines if line != SAID and not line.startswith(TOLD)]
+        self.told = [line for line in lines if line.startswith(TOLD)]
         self.status = ended.returncode
 
 
@@ -169,6 +179,50 @@ def try_session(program, library, session):
         places[place] = places.get(place, 0) + 1
 
 
+def contents_of(folder):
+    """The files of a folder."""
+    files = {}
+    for name in os.listdir(folder):
+        with open(os.path.join(folder, name), "rb") as file:
+            files[name] = file.read()
+    return files
+
+
+def check_saved(program, folder, run, session, before):
+    """Checks what a run left where it was to save. Gives the kind of the place where an allocation was refused."""
+    is_joined = run.told != [TOLD + "not joined"]
+    if run.status == session.status or not is_joined:
+        check(list(contents_of(folder)) == ["saved"], "what is left in the folder", run)
+        verdict = subprocess.run([program, "audit", "saved"], cwd=folder, stdout=subprocess.PIPE, stderr=subprocess.STDOUT)
+        check(verdict.returncode == 0 and verdict.stdout.startswith(b"legal "), f"what is saved is {verdict.stdout}", run)
+        return "and it is saved" if is_joined else "in the join"
+    check(run.status == 2 or (run.status, run.told) == (5, [TOLD + "no memory"]), f"it told {run.told}", run)
+    check(contents_of(folder) == before, "what stood there", run)
+    check(run.status == 5 or not run.before, "after the command line was read", run)
+    return "in the save" if run.replies == session.answers else "before the session"
+
+
+def try_saved(program, library, session, before):
+    """Refuses each allocation of a session that is saved in turn. Gives how often each kind of place was met."""
+    places = {}
+    number = 0
+    while True:
+        number += 1
+        with tempfile.TemporaryDirectory() as folder:
+            for name, data in before.items():
+                with open(os.path.join(folder, name), "wb") as file:
+                    file.write(data)
+            run = Run(program, library, folder, session, session.commands, number)
+            try:
+                place = check_saved(program, folder, run, session, before)
+            except Wrong as wrong:
+                raise Wrong(f"allocation {number}: {wrong}") from None
+        if not run.was_refused:
+            check(run.status == session.status and run.replies == session.answers, "with ample memory", run)
+            return places
+        places[place] = places.get(place, 0) + 1
+
+
 def library_in(folder):
     """The library that refuses allocations, built in a folder."""
     library = os.path.join(folder, "refuses.so")
@@ -200,6 +254,9 @@ def main():
         library = library_in(folder)
         for session in SESSIONS:
             failed |= told(session.name, lambda: try_session(program, library, session))
+        for session in SAVED:
+            for name, before in ("over nothing", {}), ("over an older file", {"saved": OLDER}):
+                failed |= told(f"{session.name}, {name}", lambda: try_saved(program, library, session, before))
     sys.exit(failed)
 
 
