@@ -12,7 +12,8 @@ thread: where several threads make so many calls of a kind, one call of each fai
 
 Always: the server ends within 20 s of being asked to, by itself, with a status and lines that docs/protocol.md names; each reply is the
 one that is due, or `! 1`, or a fault of a command on files, or the connection ends; a history that is there is legal, and has the
-entries that the server tells. What more may be met is said by the table, kind by kind. Without `strace` nothing is tried.
+entries that the server tells. What more may be met is said by the table, kind by kind, and of some files what has to be met where a
+call on them fails: nobody is told that all is well. Without `strace` nothing is tried.
 """
 import argparse
 import collections
@@ -47,8 +48,8 @@ WAITS = "a client waits until another goes"
 # `stop` was told of no end in order, and asked again; or it was told so though the server ended with status 0.
 AGAIN, UNTOLD = "stop asked again", "stop was told of no end in order"
 
-# `at` names the files whose calls fail, where not all do.
-Row = collections.namedtuple("Row", "kinds errors may at", defaults=("",))
+# `at` names the files whose calls fail, where not all do. `must` says what a failing call on a file of these names leads to, one or the other.
+Row = collections.namedtuple("Row", "kinds errors may at must", defaults=("", {}))
 TABLE = [
     Row("socket", "EMFILE ENOMEM", {UNSTARTED, FAULT}),
     # Then there is no spare descriptor.
@@ -67,11 +68,11 @@ TABLE = [
     Row("epoll_ctl", "ENOSPC ENOMEM", {UNSTARTED, REFUSED}),
     Row("openat", "EMFILE EACCES ENOSPC", {UNSTARTED, FAULT, UNSAVED}),
     Row("close", "EIO", set()),
-    Row("fsync", "EIO ENOSPC", {UNSTARTED, FAULT, UNSAVED}),
+    Row("fsync", "EIO ENOSPC", {UNSTARTED, FAULT, UNSAVED}, must={r"\.refheap-new\d+": {UNSTARTED, UNSAVED}, "file": {FAULT}}),
     Row("rename", "EACCES ENOSPC EIO", {UNSAVED}),
     Row("link", "EACCES ENOSPC EIO", {UNSTARTED}),
     Row("unlink", "EACCES EIO", {UNSTARTED, LEFT}),
-    Row("chmod fchmod", "EACCES EIO", {UNSTARTED, UNSAVED}),
+    Row("chmod fchmod", "EACCES EIO", {UNSTARTED, UNSAVED}, must={r"(heap|control)\.new|\.refheap-new\d+": {UNSTARTED, UNSAVED}}),
     # What cannot be looked at is not removed.
     Row("statx", "EACCES EIO", {UNSTARTED, FAULT, UNSAVED, LEFT}),
     Row("fcntl", "EMFILE", {UNSTARTED, CUT, ACCEPTS}),
@@ -302,7 +303,8 @@ class Life:
         shutil.copy(older(program), self.history)
         self.echo = Echo(self.at("peer"))
         words = [program, "serve", "--socket", self.at("heap"), "--control", self.at("control"), "--total", "1000", "--save", self.history]
-        self.tracing = ["strace", "-f", "-e", "signal=none", "-o", self.log, *tracing]
+        # With `-y` it tells the names of descriptors.
+        self.tracing = ["strace", "-f", "-y", "-e", "signal=none", "-o", self.log, *tracing]
         for name in at.split():
             self.tracing += ["-P", self.at(name)]
         self.later, self.tracer = later, None
@@ -612,6 +614,14 @@ def plans(program, most):
         yield kind, True, total[kind], rows, numbers(1, times[kind], most)
 
 
+def judge_ignored(life, must):
+    """A failing call on a file for which the table says what it leads to has led to that."""
+    for files, due in must.items():
+        for call in life.failed:
+            if re.search(rf'/({files})[">]', call) and not life.met & due:
+                raise Wrong(f"{call} led to {sorted(life.met) or 'nothing'}, due is one of {sorted(due)}")
+
+
 def one_life(program, kind, error, number, later, row):
     """A life with a call failing. What was met, and which calls failed."""
     tracing = ["-e", f"trace={kind}", "-e", f"inject={kind}:error={error}:when={number}"]
@@ -624,6 +634,7 @@ def one_life(program, kind, error, number, later, row):
         named = [name for name in life.left if any(f'/{name}"' in call for call in life.failed)]
         if kind != "listen" and named != life.left:
             raise Wrong(f"{life.left} left, of which a failing call was to remove {named}")
+        judge_ignored(life, row.must)
     except Wrong as wrong:
         raise Wrong(f"{kind} {number} {error} {'behind' if later else 'at'} the start: {wrong}; failed: {life.failed or 'none'}") from None
     return life.met or {"nothing is seen"} if life.failed else {"not met"}, life.failed
