@@ -89,6 +89,14 @@ with socket.socket(socket.AF_UNIX) as stream:
 END
 }
 
+# left FILE NAME: that a file of the user's is left alone, whose line is mine
+left() {
+    if [ "$(cat "$1")" != "mine" ]; then
+        echo "WRONG   $2: the file is not left alone"
+        failed=1
+    fi
+}
+
 # gone NAME: that nothing lies where a server listened
 gone() {
     if [ -e "$socket" ]; then
@@ -113,15 +121,25 @@ gone "a server whose output is full"
 echo "mine" >"$folder/file"
 "$program" serve --socket "$folder/file" --total 1 2>"$errors"
 check "a server where a file is" 1 "refheap: cannot listen on $folder/file"$'\n'"$in_use" $?
-if [ "$(cat "$folder/file")" != "mine" ]; then
-    echo "WRONG   a server where a file is: the file is not left alone"
-    failed=1
-fi
+left "$folder/file" "a server where a file is"
 "$program" serve --socket "$folder/file" --mode 600 --total 1 2>"$errors"
 check "a server with a mode where a file is" 1 "refheap: cannot listen on $folder/file"$'\n'"$in_use" $?
 "$program" serve --socket "$socket" --control "$folder/file" --total 1 2>"$errors"
 check "a server whose socket of control is a file" 1 "refheap: cannot listen on $folder/file"$'\n'"$in_use" $?
+left "$folder/file" "a server whose socket of control is a file"
 gone "a server whose socket of control is a file"
+echo "mine" >"$socket.new"
+timeout 60 "$program" serve --socket "$socket" --mode 600 --total 1 2>"$errors"
+check "a server with a mode whose new socket is a file" 1 "refheap: cannot listen on $socket"$'\n'"$in_use" $?
+left "$socket.new" "a server with a mode whose new socket is a file"
+gone "a server with a mode whose new socket is a file"
+rm -f "$socket.new"
+echo "mine" >"$folder/control.new"
+timeout 60 "$program" serve --socket "$socket" --control "$folder/control" --total 1 2>"$errors"
+check "a server whose new socket of control is a file" 1 "refheap: cannot listen on $folder/control"$'\n'"$in_use" $?
+left "$folder/control.new" "a server whose new socket of control is a file"
+gone "a server whose new socket of control is a file"
+rm -f "$folder/control.new"
 
 # clients: a server of clients that cannot write what they are told, or cannot read what they are to send
 control=$folder/control
@@ -155,9 +173,10 @@ check "their server" 0 "" $status
 gone "their server"
 
 "$program" run --save "$folder/history" </dev/null >/dev/null
-for words in audit stats; do
-    "$program" "$words" "$folder/history" >/dev/full 2>"$errors"
-    check "$words, whose output is full" 1 "refheap: write failed" $?
+for words in "audit $folder/history" "audit --explain $folder/history" "audit --json $folder/history" "stats $folder/history" \
+    "stats --json $folder/history" commands "commands weak" version; do
+    "$program" $words >/dev/full 2>"$errors"
+    check "${words//$folder\//}, whose output is full" 1 "refheap: write failed" $?
 done
 "$program" serve --socket "$folder/none/socket" --total 1 2>"$errors"
 check "a server where no folder is" 1 "refheap: cannot listen on $folder/none/socket"$'\n'"$missing" $?
