@@ -162,6 +162,29 @@ def from_pipe(program, folder):
     server.ended()
 
 
+def shown_at(place):
+    """All that is shown at a pseudo-terminal whose other side is closed."""
+    shown = b""
+    try:
+        while got := os.read(place, 65536):
+            shown += got
+    except OSError:
+        pass
+    return shown.decode().replace("\r\n", "\n")
+
+
+def from_pipe_to_terminal(program, folder):
+    """The client whose input is a pipe, and whose output is a terminal: the replies alone are shown, and no line is for the client."""
+    server = Server(program, folder, 1)
+    place, other = pty.openpty()
+    client = subprocess.Popen([program, "client", server.path], stdin=subprocess.PIPE, stdout=other, stderr=subprocess.PIPE)
+    os.close(other)
+    said = client.communicate(b"new -\nhelp\n.quit\nget 7 0\nbye\n", timeout=60)[1]
+    wants("a script to a terminal", (client.returncode, said, shown_at(place)), (0, b"", "= 1\n! 15\n! 15\n! 3\nok\n"))
+    os.close(place)
+    server.ended()
+
+
 def manual(program, folder):
     status, text, said = run(program, ["commands"])
     lines = text.splitlines()
@@ -358,7 +381,7 @@ def speed(program, folder):
 
 def main():
     program = os.path.abspath(sys.argv[1])
-    for part in [at_terminal, from_pipe, manual, greeting, figures, many_collections, progress, reasons, speed]:
+    for part in [at_terminal, from_pipe, from_pipe_to_terminal, manual, greeting, figures, many_collections, progress, reasons, speed]:
         with tempfile.TemporaryDirectory() as folder:
             part(program, folder)
     sys.exit(1 if WRONG else 0)
