@@ -58,6 +58,10 @@ def as_nobody():
     os.setuid(NOBODY)
 
 
+def is_same(before, after):
+    return (before.st_dev, before.st_ino, before.st_mode, before.st_uid) == (after.st_dev, after.st_ino, after.st_mode, after.st_uid)
+
+
 def limited(kind, most):
     return lambda: resource.setrlimit(kind, (most, most))
 
@@ -141,6 +145,27 @@ def rights(checks):
     checks.said("the audit of a file without rights", checks.run(["audit", "closed"], "", as_nobody), wanted)
 
 
+def strangers(checks):
+    """A server of nobody's at the path of one of root's, in a folder that all may write to, which is none that nobody may join."""
+    path = checks.path("roots")
+    server = subprocess.Popen([checks.program, "serve", "--socket", path, "--total", "1", "--mode", "600"], stdout=subprocess.PIPE, stderr=subprocess.PIPE)
+    try:
+        for _ in range(1000):
+            if os.path.exists(path):
+                break
+            time.sleep(0.01)
+        before = os.lstat(path)
+        for words in [], ["--mode", "600"]:
+            status, out, said = checks.run(["serve", "--socket", path, "--total", "1", *words], "", as_nobody)
+            begins = said.startswith(f"refheap: cannot listen on {path}\nrefheap: ".encode())
+            checks.said(" ".join(["a server of nobody's", *words, "where root's listens"]), (status, out, begins), (1, b"", True))
+            checks.said("root's socket is left", is_same(before, os.lstat(path)), True)
+        replies, said = served(path), server.communicate(timeout=120)
+        checks.said("and root's server goes on", (replies, server.returncode, said), (b"ok\n", 0, (b"served 1\nentries 2\n", b"")))
+    finally:
+        server.kill()
+
+
 def full_disk(checks):
     os.mkdir(checks.path("small"))
     if subprocess.run(["mount", "-t", "tmpfs", "-o", "size=16k", "none", checks.path("small")], stderr=subprocess.DEVNULL).returncode:
@@ -163,13 +188,22 @@ def full_disk(checks):
 
 
 def servers(checks):
-    for name, make in (("a file", lambda path: open(path, "w").close()), ("a directory", os.mkdir), ("a link to nowhere", lambda path: os.symlink("none", path))):
+    with socket.socket(socket.AF_UNIX) as stream:
+        stream.bind(checks.path("dead"))
+    for name, make in (
+        ("a file", lambda path: open(path, "w").close()), ("a directory", os.mkdir), ("a link to nowhere", lambda path: os.symlink("none", path)),
+        ("a link to a dead socket", lambda path: os.symlink("dead", path)),
+    ):
         path = checks.path("socket")
-        make(path)
-        got = checks.run(["serve", "--socket", path, "--total", "1"])
-        checks.said(f"a server at a path that is {name}, which is left", (got, os.path.lexists(path)),
-                    ((1, b"", f"refheap: cannot listen on {path}\n".encode() + IN_USE), True))
-        os.rmdir(path) if os.path.isdir(path) else os.unlink(path)
+        for words in [], ["--mode", "600"]:
+            make(path)
+            before = os.lstat(path)
+            got = checks.run(["serve", "--socket", path, "--total", "1", *words])
+            left = os.path.lexists(path) and is_same(before, os.lstat(path))
+            checks.said(" ".join(["a server", *words, "at a path that is", name]) + ", which is left", (got, left),
+                        ((1, b"", f"refheap: cannot listen on {path}\n".encode() + IN_USE), True))
+            os.rmdir(path) if os.path.isdir(path) else os.unlink(path)
+    checks.said("the dead socket to which a link led is left", os.path.exists(checks.path("dead")), True)
     far = checks.path("n" * 120)
     checks.said("a server at a path that is too long", checks.run(["serve", "--socket", far, "--total", "1"])[::2],
                 (1, f"refheap: cannot listen on {far}\n".encode() + TOO_LONG))
@@ -268,9 +302,10 @@ def main():
             part(checks)
         if os.geteuid() == 0:
             rights(checks)
+            strangers(checks)
             full_disk(checks)
         else:
-            print("left    rights and a full disk: they want root")
+            print("left    rights, a server of another user's, and a full disk: they want root")
     finally:
         shutil.rmtree(checks.folder, ignore_errors=True)
     return 1 if checks.failed else 0
