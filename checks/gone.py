@@ -10,7 +10,7 @@ open is closed on a quiet server, and `open` finds room again. A server that is 
 sent, saves, removes its files and only then lets go who asked, and is gone then: with 64 clients, while it starts, while its save
 fails, asked twice, killed meanwhile, with its socket of control deleted, held by signals, looked at where descriptors
 ran out, and N times at random moments (40). A socket's file of a server that was killed is replaced, one of a server
-that lives is left alone, and so is a file that is not the server's own at its end.
+that lives is left alone, and so is a file, or a socket, that is not the server's own at its end, in place of either of its sockets.
 """
 import argparse
 import os
@@ -472,6 +472,32 @@ def files_of_sockets(program, asked):
     shutil.rmtree(server.folder)
 
 
+def put_file(at):
+    with open(at, "w", encoding="ascii") as file:
+        file.write("another's")
+
+
+def put_socket(at):
+    with socket.socket(socket.AF_UNIX) as stream:
+        stream.bind(at)
+
+
+def what_others_put_there_by_the_end_stays(program, asked):
+    """By the end of a server a file, or a socket, of another's lies in place of each of its own."""
+    for put in put_file, put_socket:
+        server = Server(program, 1, 1)
+        peer = server.peer()
+        check(peer.ask("new -") == "= 1", "it serves")
+        places = server.path, server.control
+        for at in places:
+            os.rename(at, at + ".mine")
+            put(at)
+        before = [os.lstat(at).st_ino for at in places]
+        check(peer.ask("bye") == "ok" and server.process.wait(TIMEOUT) == 0, "it ends by itself")
+        check([os.lstat(at).st_ino for at in places] == before, "what is not its own is the same")
+        check(server.end() == (0, ["control", "heap", "history"], [b"legal"], b""), "and an end in order")
+
+
 def main():
     parser = argparse.ArgumentParser(description=__doc__.splitlines()[0])
     parser.add_argument("program")
@@ -483,7 +509,7 @@ def main():
                  what_a_client_left_is_closed, a_stop_answers_what_is_owed, a_second_stop_cuts, a_stop_without_a_server, a_stop_whose_save_fails,
                  a_stop_without_a_word, a_stop_waits_until_the_server_is_gone, a_stop_of_a_server_that_is_killed, a_look_is_no_stop,
                  a_look_without_descriptors_is_no_stop, a_server_that_was_held_goes_on, a_deleted_socket_of_control,
-                 stops_beside_each_other, stops_at_any_moment, files_of_sockets):
+                 stops_beside_each_other, stops_at_any_moment, files_of_sockets, what_others_put_there_by_the_end_stays):
         try:
             case(program, asked)
         except (AssertionError, OSError, subprocess.SubprocessError) as error:
