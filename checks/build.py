@@ -1,13 +1,13 @@
 #!/usr/bin/env python3
 """Proves and builds the program crate by crate, from below, on a machine with little memory.
 
-`rt run` begins with a pass over the sources of all crates in one process, which takes 9.4 GB. This script calls `rt lib` in each crate that
+`rt run` begins with a pass over the sources of all crates in one process, which takes up to 10.5 GB. This script calls `rt lib` in each crate that
 the program stands on, in the order of crates.txt, and then builds the program; each call looks at its own crate alone.
 
     python3 checks/build.py [--jobs N] [CRATE..]
 
 builds the crates that are named, and what they stand on; by default the program, refheap. With --jobs N up to N crates are proved at once
-(1 by default), where each takes one to four gigabytes. What was built before is kept. It prints a line for each crate, with its
+(1 by default), where each takes one to 4.1 GB. What was built before is kept. It prints a line for each crate, with its
 seconds and the largest memory of one of its processes, and ends with status 1 at the first crate that is not proved.
 """
 import argparse

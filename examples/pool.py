@@ -2,8 +2,8 @@
 
 A file that lies in the pool has a name that was never used before. Whoever wants one looks at the names, finds one, and takes its name away: `unbind` says ok to one
 program alone, and to all others that there is no such name. Since the name never returns, what was found is what was taken. A worker that forgets a file, or dies with
-one, leaves a guard that nobody reaches: the heap closes it. Where the limit of open files is reached `open` is refused: such files may be waiting for a collection, so
-collect, and try again.
+one, leaves a guard that nobody reaches: the heap closes it. Where the limit of open files is reached `open` is refused: such files may be waiting for a collection,
+which is due then: try again.
 
     python3 pool.py PROGRAM      four workers; some files are forgotten, and one worker is killed while it has one
 """
@@ -56,7 +56,6 @@ class Pool:
                 if refused.number != 19:
                     raise
             self.refused += 1
-            self.heap.gc()
             time.sleep(0.002)
         raise TimeoutError("all files are in use")
 

@@ -66,8 +66,9 @@
  * Results
  *
  * A call returns 0, and gives what it gives through its out pointer; or it returns a number below, and all
- * stays as it was: the heap, and what is behind the out pointer. (Two exceptions of the heap: where it is
- * full the collection stands that looked for room, and an end whose fault you tell is no refusal.)
+ * stays as it was: the heap, and what is behind the out pointer. (Two exceptions of the heap: at
+ * REFHEAP_HEAP_FULL the collection stands that looked for room, and at REFHEAP_IDLE refheap_take_up may have
+ * emptied the cleaner's line and refheap_mark swept cells.) An end told with a fault returns 0.
  * REFHEAP_NO_MEMORY comes from refheap_open, prepare, array, bind, name, note and failure alone: no other
  * call allocates.
  *
@@ -80,10 +81,10 @@
  * Collections, queues and actions
  *
  * A collection runs in refheap_gc, in refheap_gc_soft, in refheap_collect, and in a call that makes an
- * object when no cell is free. It clears references and remembers them; they come to their queues by
- * refheap_hand_over, and cleaning actions come to be done by refheap_take_up. Nothing happens by itself:
- * call both until they return REFHEAP_IDLE, after a collection or when it suits you. To spread the marking,
- * call refheap_begin, then refheap_mark with a budget between your own work until it is done, then
+ * object when too few cells are free (a guard takes two). It clears references and remembers them; they come
+ * to their queues by refheap_hand_over, and cleaning actions come to be done by refheap_take_up. Nothing
+ * happens by itself: call both until they return REFHEAP_IDLE, after a collection or when it suits you. To
+ * spread the marking, call refheap_begin, then refheap_mark with a budget between your own work until it is done, then
  * refheap_collect. Soft references are kept through soft_age collections since they were last used, and go
  * before the heap is said to be full; soft_age 0 clears them at each collection.
  *
@@ -128,7 +129,7 @@ typedef struct refheap {
 enum refheap_status {
     REFHEAP_OK = 0,
     REFHEAP_NO_MEMORY = 1,       /* an allocation was refused */
-    REFHEAP_HEAP_FULL = 2,       /* no cell is free, also after a collection that cleared soft references */
+    REFHEAP_HEAP_FULL = 2,       /* too few cells are free, also after a collection that cleared soft references */
     REFHEAP_NO_HANDLE = 3,       /* a handle is not in use */
     REFHEAP_HANDLES_FULL = 4,    /* the mutator has 250 handles */
     REFHEAP_WRONG_KIND = 5,      /* the object is of another kind */

@@ -11,7 +11,8 @@ use std::os::unix::net::UnixStream;
 /// bytes in and out.
 ///
 /// # Errors
-/// `CannotConnect`; `Read` where the input, or the server's replies, cannot be read; `Write`; `NoMemory`.
+/// `CannotConnect`; `Read` where the input cannot be read, or, without a prompt, the server's replies; `Write`;
+/// `NoMemory`.
 pub fn client(rt: &HostRuntime, path: &str) -> Result<(), ProgramFault> {
     let stream = match UnixStream::connect(rt, path) {
         Ok(stream) => stream,

@@ -81,7 +81,7 @@ pub struct StopOrder<'a> {
 #[derive(Clone, Copy)]
 pub struct AuditOrder<'a> {
     pub file: &'a str,
-    /// Whether it says why a history is not legal, and how far it is with a long one.
+    /// Whether it says why a history is not legal.
     pub explain: bool,
     /// Whether the verdict is written as JSON.
     pub json: bool,

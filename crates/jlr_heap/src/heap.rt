@@ -57,7 +57,8 @@ impl<K: Keeper> Heap<K> {
     /// A heap for which this answers, in which the mutator has joined.
     ///
     /// # Errors
-    /// Why it cannot join: there is no memory, or too few entry numbers are left. What answers is given back.
+    /// Why it cannot join: there is no memory, too few entry numbers are left, or it has joined. What answers is given
+    /// back.
     pub fn over(keeper: K) -> Result<Self, Declined<K>>
         ensures { MatchResult result (λ heap. HasJoined K.asking keeper heap)
             (λ declined. CannotJoin K.asking keeper declined.by declined.held) }

@@ -72,7 +72,7 @@ module _ {D R : Type 0} where
 
 module _ {D R : Type 0} (limits : Limits) (device : Opening D R) (attends : D → D → Type 0)
     (handling : Handling R) where
-  -- a device attends a client, or none any more
+  -- a device is told which client it attends, or that it attends none; or it is left as it was
   abbrev pub Attends : D → D → Type 0
   Attends old new = (new ≡ old) ⊎ attends old new
 
@@ -80,7 +80,8 @@ module _ {D R : Type 0} (limits : Limits) (device : Opening D R) (attends : D �
       (contents : O → Option (List ℕ)) where
     -- A session at a seat, with the client that an acceptor gave at this accept, and takes back as the session left it:
     -- what it sent is carried out by asks of the seat, each a step of the one history, with the files and sockets of
-    -- the seat's device, and it gets the replies. The device attends the client before, and none any more behind it.
+    -- the seat's device, and it gets the replies. The device may be told of the client before, and that nobody is there
+    -- behind it.
     abbrev pub IsSession : AcceptId → Seen (Step R) × D → Seen (Step R) × D → Type 0
     IsSession id old new =
         (acceptor : A) × (input : I) × (output : O) × giving.gives acceptor id input output

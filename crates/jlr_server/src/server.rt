@@ -34,7 +34,7 @@ use std::thread::{PromisedHandle, Threads};
 pub struct Served<R, D> {
     /// How many clients were waited for, those that did not come among them.
     pub accepts: u32,
-    /// How many of these did not come, or could not be watched.
+    /// How many of these failed: nobody came.
     pub missed: u32,
     /// The end of the one history.
     pub book: Book<R>,

@@ -191,8 +191,7 @@ where
         }
     }
 
-    /// An accept more, that gave no client: it failed, or the client could not be watched. A seat at which 2^32 - 1 did
-    /// counts none.
+    /// An accept more, that failed and gave no client. A seat at which 2^32 - 1 did counts none.
     pub(crate) fn miss(self) -> Self
         requires seat { self.seat.seat < L.limits.sessions }
         requires fails { (acceptor : A) × (fault : Fault) × A.giving.fails acceptor (next_of self) fault }
