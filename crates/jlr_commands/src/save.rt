@@ -120,7 +120,8 @@ where
 
 /// Saves the history of a session that has ended, and says what its end is to the program.
 fn saved_end(rt: &HostRuntime, path: &str, recording: Recording) -> Result<(), ProgramFault>
-    ensures { IsErrAnd result IsUnsaved ⊎ IsOutcome recording.end result }
+    ensures ended { IsErrAnd result IsUnsaved ⊎ IsOutcome recording.end result }
+    ensures unsaved { IsErr recording.history → IsErrAnd result IsUnsaved }
 {
     let Recording { end, history } = recording;
     let bytes = match history {

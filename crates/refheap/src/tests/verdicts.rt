@@ -22,7 +22,7 @@ const FILE: &str = "
 
 /// Each row says how many bytes of the file stand at the front, what stands behind them in place of as many, an arrow,
 /// and how the audit ends: the status, what is said, and what is written. Without bytes there is no file. A row with
-/// `json` in front asks for JSON, and one with `two` in front has the file in version 2.
+/// `short` in front asks for no explanation, one with `json` for JSON, and one with `two` has the file in version 2.
 const ROWS: &str = "
     103 -> 0||legal 2 version 1
     100 01 -> 3||illegal 2 version 1 entry 2 of seat 0, leave of mutator 1, answered ok: it has to be refused 13, since the mutator is not joined, or may not join
@@ -47,7 +47,13 @@ const ROWS: &str = "
     json 103 -> 0||{\"legal\":true,\"entries\":2,\"before\":0,\"version\":1}
     json 12 0000000000000007 -> 0||{\"legal\":true,\"entries\":2,\"before\":7,\"version\":1}
     json 96 0c -> 3||{\"legal\":false,\"entry\":1,\"entries\":2,\"before\":0,\"version\":1,\"why\":\"entry 1 of seat 0, join of mutator 0, answered done before: another answer is due: ok\"}
+    json two 12 0000000000000007 00000000 00 00000000 00000000 00000000 00000000 00000000 00000000 00000000 0000000000000001 \
+    0000000000000000 0000000000000000 0000000000000000 0000000000000003 0000000000 0001010000 0001000000 -> \
+    3||{\"legal\":false,\"entry\":2,\"entries\":3,\"before\":7,\"version\":2,\"why\":\"entry 2 of seat 0, leave of mutator 1, answered ok: it has to be refused 13, since the mutator is not joined, or may not join\"}
     json 1 58 -> 4|refheap: bad mark|
+    short 12 0000000000000007 -> 0||legal 2 version 1
+    short 100 01 -> 3||illegal 2 version 1
+    short json 100 01 -> 3||{\"legal\":false,\"entry\":2,\"entries\":2,\"before\":0,\"version\":1,\"why\":\"\"}
 ";
 
 /// Where the tests write a history.
@@ -140,12 +146,7 @@ fn in_one_line(alloc: Global, text: &str) -> Result<String, AllocError> {
 }
 
 /// The status after an audit, and what was said on the standard error.
-fn audited(rt: HostRuntime, json: bool, written: &mut Vec<u8>) -> (u8, String) {
-    let asked = AuditOrder {
-        file: PATH,
-        explain: true,
-        json,
-    };
+fn audited(rt: HostRuntime, asked: AuditOrder<'_>, written: &mut Vec<u8>) -> (u8, String) {
     let outcome = audit(&rt, asked, written);
     let said = RefCell::new(String::new(rt.alloc()));
     let kept = Kept {
@@ -158,10 +159,10 @@ fn audited(rt: HostRuntime, json: bool, written: &mut Vec<u8>) -> (u8, String) {
 }
 
 /// How an audit ends: the status, what is said, and what is written.
-fn ending(rt: HostRuntime, json: bool) -> Result<String, Fail> {
+fn ending(rt: HostRuntime, asked: AuditOrder<'_>) -> Result<String, Fail> {
     let alloc = rt.alloc();
     let mut written = Vec::new(alloc);
-    let (status, said) = audited(rt, json, &mut written);
+    let (status, said) = audited(rt, asked, &mut written);
     let said = in_one_line(alloc, said.as_str())?;
     let written = in_one_line(alloc, str::from_utf8(&written)?)?;
     Ok(format!(in alloc; "{status}|{said}|{written}")?)
@@ -177,9 +178,16 @@ pub(super) fn compared(row: &str, got: &str, wanted: &str) -> Result<(), Fail> {
 
 fn played(rt: HostRuntime, row: &str) -> Result<(), Fail> {
     let (change, wanted) = row.split_once(" -> ").ok_or("no row")?;
+    let short = change.strip_prefix("short ");
+    let change = short.unwrap_or(change);
     let json = change.strip_prefix("json ");
     lay(rt, json.unwrap_or(change))?;
-    let got = ending(rt, json.is_some())?;
+    let asked = AuditOrder {
+        file: PATH,
+        explain: short.is_none(),
+        json: json.is_some(),
+    };
+    let got = ending(rt, asked)?;
     drop(fs::remove_file(&rt, PATH));
     compared(row, got.as_str(), wanted)
 }

@@ -239,6 +239,7 @@ const WRONG: &str = "
     refheap run --soft-age x -> status 2
     refheap run --cells +16 -> status 2
     refheap run --cells 016 -> status 2
+    refheap run --resources 016 -> status 2
     refheap run --soft-age 00 -> status 2
     refheap run --trace 63 -> status 2
     refheap run --trace 1000001 -> status 2
