@@ -39,8 +39,8 @@ REPLIES = {"ok", "yes", "no", "int", "data", "end", "wrote", "list", "fault", "s
 FOREIGN = {"java.lang.ref", "clone", "drop", "remove", "pub use", "std::io::Read", "Debug", "match", "format!", "assert_eq!", "main", "let _ =", "#[test]", "out/", "fsync", "rt",
            "*.Lts.oantt", "*.Proof.oantt", "records/*.Proof.decls.oantt", "out/incremental", ".refheap-new0", ".refheap-new99", "strace", "valgrind", "ReadFault", "rustc", "cc",
            "bash", "--jobs 1", "_", "crates/refheap/out/refheap", "NAME", "PATH", "FILE", "Module.name", "-", "-0", "logic dac8208d650f15bf"}
-# Behind this heading a table's first column names what the plan called so, and is not there.
-PLAN = "## Calls of the plan under another name"
+# Behind this heading a table's first column names what the first design called so, and is not there.
+PLAN = "## Calls that the first design named otherwise"
 
 
 def read(path):

@@ -1,5 +1,4 @@
-//! Tests of what needs no session: of the core, by lists of events and what each is answered; of small values, devices
-//! and the cleaner (`below`); of the plain program (`plain`); of trace files, verdicts and figures (`audit`).
+//! Tests of the core, by lists of events and what each is answered.
 //!
 //! They stand in a crate of their own, over public calls, so that what they test is proved once and not a second time
 //! with them.

@@ -19,15 +19,12 @@ use jlr_types::{Limits, Mutator};
 use script::events_of;
 use std::alloc::{AllocError, Global};
 
-mod audit;
-mod below;
 mod cleaning;
 mod cycles;
 mod long_queues;
 mod memory;
 mod names;
 mod objects;
-mod plain;
 mod queues;
 mod references;
 mod refusals;

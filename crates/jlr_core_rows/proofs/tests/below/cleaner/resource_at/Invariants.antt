@@ -1,6 +1,0 @@
-use Rattle.std.proofs.Common.{◌≡◌, drop}
-use Rattle.jlr_resource.specs.Resources.{resource_in}
-use Rattle.jlr_core_rows.proofs.tests.below.cleaner.resource_at.Given as goal
-
-abbrev pub invariant-loop-resource : goal.invariant-loop-resource
-invariant-loop-resource l = resource_in (drop l.resource-index l.resources) l.rid ≡ resource_in l.resources l.rid
