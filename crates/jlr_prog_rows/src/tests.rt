@@ -1,7 +1,6 @@
 //! Sessions as lists of text. The expected texts come from the description of the protocol and of the machine.
 mod arrays;
 mod cleaners;
-mod client;
 mod cuts;
 mod files;
 mod histories;
@@ -11,6 +10,5 @@ mod objects;
 mod player;
 mod references;
 mod scripts;
-mod session;
 mod settings;
 mod words;

@@ -1,7 +1,7 @@
 //! Rows of sessions.
 use super::script::Plan;
 use super::seat::Manner;
-use crate::tests::session::streams::Failing;
+use crate::tests::streams::Failing;
 use jlr_session::shell::SessionEnd;
 
 /// What a session is over.

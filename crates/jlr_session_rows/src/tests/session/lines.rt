@@ -1,7 +1,7 @@
 //! Lines, replies and ends, whatever carries the commands out.
 use super::play::play;
 use super::row::{Place, Row};
-use crate::tests::session::streams::Failing;
+use crate::tests::streams::Failing;
 use jlr_session::shell::SessionEnd;
 use std::test::Fail;
 

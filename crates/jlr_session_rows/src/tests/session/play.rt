@@ -3,7 +3,7 @@ use super::heap::Heap;
 use super::row::{Place, Row};
 use super::script::{Plan, WELL, device_of};
 use super::seat::{Manner, Seat};
-use crate::tests::session::streams::{Failing, Narrow, Pieced, Streams};
+use crate::tests::streams::{Failing, Narrow, Pieced, Streams};
 use jlr_session::serve::serve;
 use jlr_session::shell::{SessionEnd, converse};
 use std::alloc::Global;

@@ -1,6 +1,6 @@
 //! Writers that fail, or take little at a time.
 use super::{Topic, barred, is_line, is_written, play};
-use crate::tests::session::streams::Streams;
+use crate::tests::streams::Streams;
 use jlr_machine::ask::Answer;
 use jlr_wire::reply::write_reply;
 use std::alloc::Global;
