@@ -10,6 +10,7 @@ import json
 import os
 import pty
 import select
+import signal
 import socket
 import subprocess
 import sys
@@ -182,6 +183,28 @@ def from_pipe_to_terminal(program, folder):
     said = client.communicate(b"new -\nhelp\n.quit\nget 7 0\nbye\n", timeout=60)[1]
     wants("a script to a terminal", (client.returncode, said, shown_at(place)), (0, b"", "= 1\n! 15\n! 15\n! 3\nok\n"))
     os.close(place)
+    server.ended()
+
+
+def fill(pipe):
+    """Writes to a pipe until for half a second nothing more is taken."""
+    os.set_blocking(pipe.fileno(), False)
+    while select.select([], [pipe], [], 0.5)[1]:
+        os.write(pipe.fileno(), b"same 0 0\n" * 400)
+
+
+def killed(program, folder):
+    """A server that is killed while it has not read all that the client sent: the replies cannot be read."""
+    server = Server(program, folder, 1)
+    client = subprocess.Popen([program, "client", server.path], stdin=subprocess.PIPE, stdout=subprocess.PIPE, stderr=subprocess.PIPE, bufsize=0)
+    client.stdin.write(b"new -\n")
+    wants("a session of which the server will be killed", client.stdout.readline(), b"= 1\n")
+    server.process.send_signal(signal.SIGSTOP)
+    fill(client.stdin)
+    wants("the client waits", client.poll(), None)
+    server.process.kill()
+    replies, said = client.communicate(timeout=20)
+    wants("a client whose server is killed", (client.returncode, replies, said), (1, b"", b"refheap: read failed\n"))
     server.ended()
 
 
@@ -381,7 +404,7 @@ def speed(program, folder):
 
 def main():
     program = os.path.abspath(sys.argv[1])
-    for part in [at_terminal, from_pipe, from_pipe_to_terminal, manual, greeting, figures, many_collections, progress, reasons, speed]:
+    for part in [at_terminal, from_pipe, from_pipe_to_terminal, killed, manual, greeting, figures, many_collections, progress, reasons, speed]:
         with tempfile.TemporaryDirectory() as folder:
             part(program, folder)
     sys.exit(1 if WRONG else 0)

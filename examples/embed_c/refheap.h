@@ -84,9 +84,9 @@
  * object when too few cells are free (a guard takes two). It clears references and remembers them; they come
  * to their queues by refheap_hand_over, and cleaning actions come to be done by refheap_take_up. Nothing
  * happens by itself: call both until they return REFHEAP_IDLE, after a collection or when it suits you. To
- * spread the marking, call refheap_begin, then refheap_mark with a budget between your own work until it is done, then
- * refheap_collect. Soft references are kept through soft_age collections since they were last used, and go
- * before the heap is said to be full; soft_age 0 clears them at each collection.
+ * spread the marking, call refheap_begin, then refheap_mark with a budget between your own work until it is
+ * done, then refheap_collect. Soft references are kept through soft_age collections since they were last
+ * used, and go before the heap is said to be full; soft_age 0 clears them at each collection.
  *
  * Guards
  *
