@@ -1,15 +1,15 @@
 -- The sessions in members, at one mutator.
-use Rattle.std.proofs.Common.{◌≡◌, ℕ, zero, suc, ◌<◌, true, List, [], ◌∷◌, Option, Some, None, length, set, get_or, replicate, refl, ap}
+use Rattle.std.proofs.Common.{◌≡◌, ℕ, zero, suc, ◌<◌, true, false, List, [], ◌∷◌, Option, Some, None, length, set, get_or, replicate, refl, ap}
 use Rattle.std.proofs.Common.{◌∙◌, arith, subst, inl, inr, length-set, get_or-set_same, get_or-set_other}
-use Rattle.std.specs.Prelude.{slice_get, is_some, option_and_then, option_map}
+use Rattle.std.specs.Prelude.{slice_get, is_some, option_and_then, option_map, if◌then◌else◌}
 use Rattle.std.proofs.lemmas.Bool.{cases_eq}
 use Rattle.std.proofs.lemmas.List.{map-set}
 use Rattle.std.proofs.lemmas.Option.{slice_get_read, slice_get-get_or}
 use Rattle.jlr_machine.specs.declared.machine.Session.{Session}
-use Rattle.jlr_machine.specs.Objects.{at, change_at}
+use Rattle.jlr_machine.specs.Objects.{at, change_at, set_at}
 use Rattle.jlr_roots.specs.declared.member.Member.{Member}
 use Rattle.jlr_roots.specs.HandleTable.{IsHandleTable}
-use Rattle.jlr_roots.specs.Sessions.{session_in, sessions_in, AreMembers, absent}
+use Rattle.jlr_roots.specs.Sessions.{session_in, sessions_in, AreMembers, absent, with_slot}
 
 -- the session at a mutator is what its member holds
 pub at-sessions_in : (members : List Member) (k : ℕ) → at (sessions_in members) k ≡ option_and_then session_in (slice_get members k)
@@ -34,6 +34,16 @@ pub change_at-sessions_in :
     → sessions_in (set members k n) ≡ change_at (sessions_in members) k f
 change_at-sessions_in members k m n f within read becomes =
     rw (map-set session_in members k n, becomes, at-read members k m within read) refl
+
+-- a member whose handles stand for more
+pub session_with_slot : (m : Member) (handle slot : ℕ)
+    → session_in (record m { handles = set_at m.handles handle slot }) ≡ option_map (with_slot handle slot) (session_in m)
+session_with_slot m handle slot = elim m.joined as (λ b.
+    (if b then Some (record { handles = set_at m.handles handle slot; fence = m.fence; call = m.call }) else None)
+    ≡ option_map (with_slot handle slot) (if b then Some (record { handles = m.handles; fence = m.fence; call = m.call }) else None)) [
+      | true ↦ refl
+      | false ↦ refl
+    ]
 
 -- every member still has its table
 pub AreMembers-set : (members : List Member) (k : ℕ) (m : Member) → AreMembers members → IsHandleTable m.handles

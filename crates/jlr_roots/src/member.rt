@@ -1,11 +1,9 @@
 //! One mutator that may join.
-ghost use Rattle.std.specs.Prelude.{◌≡◌, ◌<◌, IfOk, IfNone, IfSome, IsTrue, Some, false, is_some, option_and_then};
-ghost use Rattle.std.specs.Prelude.{option_map};
-ghost use Rattle.jlr_machine.specs.Objects.{at, some_and};
+ghost use Rattle.std.specs.Prelude.{◌≡◌, ◌<◌, IfOk, IsTrue, Some, false, is_some, option_and_then, option_map};
+ghost use Rattle.jlr_machine.specs.Objects.{at};
 ghost use Rattle.jlr_machine.specs.Calls.{fresh_session};
-ghost use Rattle.jlr_machine.specs.Refusals.{is_in_flight};
-ghost use Rattle.jlr_roots.specs.HandleTable.{IsHandleTable, has_handle_room};
-ghost use Rattle.jlr_roots.specs.Sessions.{absent, lowest_in, session_in, session_in_call, with_slot, without_handle};
+ghost use Rattle.jlr_roots.specs.HandleTable.{IsHandleTable};
+ghost use Rattle.jlr_roots.specs.Sessions.{absent, session_in, session_in_call, without_handle};
 ghost use Rattle.jlr_roots.specs.Walk.{slot_at};
 
 use crate::handles::Handles;
@@ -19,10 +17,10 @@ const FENCE_PLACE: usize = 251;
 /// A mutator, joined or not, with its handles, its call and the fence of that call.
 #[derive(Drop)]
 pub(crate) struct Member {
-    joined: bool,
-    handles: Handles,
-    fence: Option<Slot>,
-    call: Call,
+    pub(crate) joined: bool,
+    pub(crate) handles: Handles,
+    pub(crate) fence: Option<Slot>,
+    pub(crate) call: Call,
 }
 
 impl Member {
@@ -54,12 +52,6 @@ impl Member {
         self.joined = false;
     }
 
-    pub(crate) fn is_joined(&self) -> bool
-        ensures { result ≡ is_some (session_in self.now) }
-    {
-        self.joined
-    }
-
     /// The session as plain data, if it is joined.
     pub(crate) fn image(&self, alloc: Global) -> Result<Option<Session>, AllocError>
         ensures { IfOk result (λ session. session ≡ session_in self.now) }
@@ -74,58 +66,12 @@ impl Member {
         }))
     }
 
-    pub(crate) fn lookup(&self, handle: Handle) -> Option<Slot>
-        ensures { result ≡ option_and_then (λ s. at s.handles handle) (session_in self.now) }
-    {
-        if self.joined {
-            self.handles.get(handle)
-        } else {
-            None
-        }
-    }
-
-    pub(crate) fn has_free_handle(&self) -> bool
-        ensures { result ≡ some_and (λ s. has_handle_room s.handles) (session_in self.now) }
-    {
-        self.joined && self.handles.has_room()
-    }
-
-    pub(crate) fn put_handle(&mut self, slot: Slot) -> Option<Handle>
-        requires { IsTrue (is_some (session_in self.old)) }
-        ensures room { is_some result ≡ some_and (λ s. has_handle_room s.handles) (session_in self.old) }
-        ensures none { IfNone result (self.new ≡ self.old) }
-        ensures lowest { IfSome result (λ handle. handle ≡ lowest_in (session_in self.old)) }
-        ensures held { IfSome result (λ handle. session_in self.new
-            ≡ option_map (with_slot handle slot) (session_in self.old)) }
-        ensures table { IsHandleTable self.new.handles }
-    {
-        self.handles.put(slot)
-    }
-
     pub(crate) fn drop_handle(&mut self, handle: Handle)
         requires { IsTrue (is_some (option_and_then (λ s. at s.handles handle) (session_in self.old))) }
         ensures removed { session_in self.new ≡ option_map (without_handle handle) (session_in self.old) }
         ensures table { IsHandleTable self.new.handles }
     {
         self.handles.remove(handle);
-    }
-
-    pub(crate) fn call(&self) -> Option<Call>
-        ensures { result ≡ option_map (λ s. s.call) (session_in self.now) }
-    {
-        if self.joined { Some(self.call) } else { None }
-    }
-
-    pub(crate) fn fence(&self) -> Option<Slot>
-        ensures { result ≡ option_and_then (λ s. s.fence) (session_in self.now) }
-    {
-        if self.joined { self.fence } else { None }
-    }
-
-    pub(crate) fn has_call(&self) -> bool
-        ensures { result ≡ some_and (λ s. is_in_flight s.call) (session_in self.now) }
-    {
-        self.joined && is_in_flight(self.call)
     }
 
     pub(crate) fn set_call(&mut self, fence: Option<Slot>, call: Call)
@@ -141,18 +87,12 @@ impl Member {
         requires { place < 252 }
         ensures { result ≡ option_and_then (slot_at place) (session_in self.now) }
     {
-        if place == FENCE_PLACE {
-            return self.fence();
+        if !self.joined {
+            return None;
         }
-        self.lookup(Handle::new(place as u8))
-    }
-}
-
-fn is_in_flight(call: Call) -> bool
-    ensures { result ≡ is_in_flight call }
-{
-    match call {
-        Call::Free => false,
-        Call::Opening(_) | Call::Out(_) | Call::Job(_) => true,
+        if place == FENCE_PLACE {
+            return self.fence;
+        }
+        self.handles.get(Handle::new(place as u8))
     }
 }

@@ -62,7 +62,7 @@ impl Roots {
         ensures { result ≡ is_some (at self.now mutator) }
     {
         match self.members.get(mutator.number() as usize) {
-            Some(member) => member.is_joined(),
+            Some(member) => member.joined,
             None => false,
         }
     }
@@ -91,7 +91,7 @@ impl Roots {
         ensures { result ≡ session_has_free_handle self.now mutator }
     {
         match self.members.get(mutator.number() as usize) {
-            Some(member) => member.has_free_handle(),
+            Some(member) => member.joined && member.handles.has_room(),
             None => false,
         }
     }
@@ -105,7 +105,7 @@ impl Roots {
         ensures held { IfSome result (λ handle. self.new ≡ change_at self.old mutator (with_slot handle slot)) }
     {
         let member = &mut self.members[mutator.number() as usize];
-        member.put_handle(slot)
+        member.handles.put(slot)
     }
 
     /// A mutator uses a handle no more.
@@ -121,7 +121,10 @@ impl Roots {
     pub fn lookup(&self, mutator: Mutator, handle: Handle) -> Option<Slot>
         ensures { result ≡ slot_held self.now mutator handle }
     {
-        lookup(&self.members, mutator.number() as usize, handle)
+        match self.members.get(mutator.number() as usize) {
+            Some(member) if member.joined => member.handles.get(handle),
+            _ => None,
+        }
     }
 
     /// What a mutator is in the middle of, if it is joined.
@@ -129,8 +132,8 @@ impl Roots {
         ensures { result ≡ option_map (λ s. s.call) (at self.now mutator) }
     {
         match self.members.get(mutator.number() as usize) {
-            Some(member) => member.call(),
-            None => None,
+            Some(member) if member.joined => Some(member.call),
+            _ => None,
         }
     }
 
@@ -139,8 +142,8 @@ impl Roots {
         ensures { result ≡ option_and_then (λ s. s.fence) (at self.now mutator) }
     {
         match self.members.get(mutator.number() as usize) {
-            Some(member) => member.fence(),
-            None => None,
+            Some(member) if member.joined => member.fence,
+            _ => None,
         }
     }
 
@@ -149,7 +152,7 @@ impl Roots {
         ensures { result ≡ session_has_call self.now mutator }
     {
         match self.members.get(mutator.number() as usize) {
-            Some(member) => member.has_call(),
+            Some(member) => member.joined && !matches!(member.call, Call::Free),
             None => false,
         }
     }
@@ -205,15 +208,6 @@ fn images(alloc: Global, members: &[Member]) -> Result<Vec<Option<Session>>, All
         mutators.push(member.image(alloc)?)?;
     }
     Ok(mutators)
-}
-
-fn lookup(members: &[Member], mutator: usize, handle: Handle) -> Option<Slot>
-    ensures { result ≡ slot_held (sessions_in members.now) mutator handle }
-{
-    match members.get(mutator) {
-        Some(member) => member.lookup(handle),
-        None => None,
-    }
 }
 
 fn root(members: &[Member], mutator: usize, place: usize) -> Option<Slot>
