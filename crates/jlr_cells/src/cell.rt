@@ -55,12 +55,12 @@ impl Blank for Cell {
 }
 
 impl Cell {
-    pub(crate) fn new(shape: Shape) -> Self
-        ensures object { object_in result ≡ Some (object_of shape) }
+    pub(crate) fn new(shape: &Shape) -> Self
+        ensures object { object_in result ≡ Some (object_of shape.now) }
         ensures links { links_of (object_in result) ≡ no_links }
     {
-        match shape {
-            Shape::Plain(layout) => Cell::Plain(Fields::blank(&layout)),
+        match *shape {
+            Shape::Plain(ref layout) => Cell::Plain(Fields::blank(layout)),
             Shape::Reference {
                 kind,
                 referent,

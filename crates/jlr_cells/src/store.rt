@@ -101,10 +101,10 @@ impl Store {
     }
 
     /// A new object is put at a slot. What lay there before, if anything, had no members.
-    pub fn put(&mut self, slot: Slot, shape: Shape)
+    pub fn put(&mut self, slot: Slot, shape: &Shape)
         requires within { slot < length self.old }
         requires members { members_in (at self.old slot) ≡ [] }
-        ensures { self.new ≡ set_at self.old slot (object_of shape) }
+        ensures { self.new ≡ set_at self.old slot (object_of shape.now) }
     {
         self.write(slot, Cell::new(shape));
     }

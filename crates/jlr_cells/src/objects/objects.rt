@@ -101,11 +101,11 @@ impl Objects {
 
     /// A new object in a free cell. Where no cell is free, all that are condemned are swept first; where none is left
     /// then, there is no new object.
-    pub fn take(&mut self, shape: Shape) -> Option<Slot>
+    pub fn take(&mut self, shape: &Shape) -> Option<Slot>
         ensures full { IsNone result ↔ (occupied self.old.objects ≡ length self.old.objects) }
         ensures none { IfNone result (self.new ≡ self.old) }
         ensures free { IfSome result (λ slot. (slot < length self.old.objects) × (at self.old.objects slot ≡ None)) }
-        ensures taken { IfSome result (λ slot. self.new.objects ≡ set_at self.old.objects slot (object_of shape)) }
+        ensures taken { IfSome result (λ slot. self.new.objects ≡ set_at self.old.objects slot (object_of shape.now)) }
         ensures condemned { IfSome result (λ _. self.new.condemned
             ≡ cond (cells_in_use self.old == length self.old.objects) 0 self.old.condemned) }
     {

@@ -47,12 +47,12 @@ invariant_of-self c =
     let s = c.self.inside in
     let n = c.take-slot.result in
     subst (λ (h : Heap). AreShown h c.take-slot.new.self.places c.take-slot.new.self.used s.listed) (sym c.put.ensures)
-    (subst (λ p. AreShown (set_at s.store n (object_of c.args.shape)) p c.take-slot.new.self.used s.listed) (sym c.take-slot.ensures.taken)
-    (subst (λ u. AreShown (set_at s.store n (object_of c.args.shape)) (set s.occupancy.places n true) u s.listed)
+    (subst (λ p. AreShown (set_at s.store n (object_of c.args.shape.now)) p c.take-slot.new.self.used s.listed) (sym c.take-slot.ensures.taken)
+    (subst (λ u. AreShown (set_at s.store n (object_of c.args.shape.now)) (set s.occupancy.places n true) u s.listed)
     (sym c.take-slot.ensures.used)
     (put_are s.store s.occupancy.places s.occupancy.used s.listed c.self.invariant n
-    (omega (arith, c.take-slot.ensures.within, c.self.invariant.places)) c.take-slot.ensures.vacant (object_of c.args.shape)
-    (new_none c.args.shape))))
+    (omega (arith, c.take-slot.ensures.within, c.self.invariant.places)) c.take-slot.ensures.vacant (object_of c.args.shape.now)
+    (new_none c.args.shape.now))))
 
 pub returns-clause-taken : goal.returns-clause-taken
 returns-clause-taken c =
@@ -60,6 +60,6 @@ returns-clause-taken c =
     let n = c.take-slot.result in
     ap (λ p. shown p c.put.new.self) c.take-slot.ensures.taken
     ∙ ap (shown (set s.occupancy.places n true)) c.put.ensures
-    ∙ shown_more s.occupancy.places s.store n (Some (object_of c.args.shape)) c.take-slot.ensures.within
-    ∙ ap (λ (h : Holding). set_at h.objects n (object_of c.args.shape)) c.self.view_is
-    ∙ ap (λ (h : Heap). set_at h n (object_of c.args.shape)) c.make_free.ensures.objects
+    ∙ shown_more s.occupancy.places s.store n (Some (object_of c.args.shape.now)) c.take-slot.ensures.within
+    ∙ ap (λ (h : Holding). set_at h.objects n (object_of c.args.shape.now)) c.self.view_is
+    ∙ ap (λ (h : Heap). set_at h n (object_of c.args.shape.now)) c.make_free.ensures.objects
