@@ -34,12 +34,12 @@ impl Heap {
         if self.vacant_count() < 2 {
             return None;
         }
-        let cleanable = self.allocate(Shape::Cleanable {
+        let cleanable = self.allocate(&Shape::Cleanable {
             referent: None,
             action,
             work: Work::Resource(rid),
         })?;
-        let guard = self.allocate(Shape::Guard { rid, cleanable })?;
+        let guard = self.allocate(&Shape::Guard { rid, cleanable })?;
         self.watch(cleanable, guard);
         Some((guard, cleanable))
     }

@@ -237,16 +237,15 @@ impl Heap {
 
     /// A new object in a free cell. Where no cell is free, all that are condemned are swept first; where none is left
     /// then, there is no new object. It was made now, and is black.
-    pub fn allocate(&mut self, shape: Shape) -> Option<Slot>
-        requires { (s : ℕ) → s ∈ (strong_edges (object_of shape) ++ option_to_list (any_referent (object_of shape)))
-            → IsInHand self.old s }
+    pub fn allocate(&mut self, shape: &Shape) -> Option<Slot>
+        requires { (s : ℕ) → s ∈ (strong_edges (object_of shape.now)
+            ++ option_to_list (any_referent (object_of shape.now))) → IsInHand self.old s }
         ensures full { IsNone result ↔ (occupied self.old.graph.objects ≡ length self.old.graph.objects) }
-        ensures none { IfNone result ((self.new.graph ≡ self.old.graph) × (self.new.clock ≡ self.old.clock)
-            × (self.new.marking ≡ self.old.marking) × (self.new.condemned ≡ self.old.condemned)) }
+        ensures none { IfNone result (self.new ≡ self.old) }
         ensures free { IfSome result (λ slot. (slot < length self.old.graph.objects)
             × (at self.old.graph.objects slot ≡ None)) }
         ensures made { IfSome result (λ slot. self.new.graph
-            ≡ with_objects self.old.graph (set_at self.old.graph.objects slot (object_of shape))) }
+            ≡ with_objects self.old.graph (set_at self.old.graph.objects slot (object_of shape.now))) }
         ensures clock { IfSome result (λ slot. self.new.clock ≡ made_now self.old.clock slot) }
         ensures black { IfSome result (λ slot. Blackened slot self.old.marking self.new.marking) }
         ensures count { IfSome result (λ _. marked self.new.marking ≡ marked self.old.marking + 1) }

@@ -1,10 +1,9 @@
 //! The mutators, their handles, and their calls in flight with the fences of those calls.
 ghost use Rattle.std.specs.Prelude.{◌≡◌, ◌<◌, ℕ, Some, IfNone, IfOk, IfSome, IsTrue, None, is_some, length};
-ghost use Rattle.std.specs.Prelude.{option_and_then, option_map};
 ghost use Rattle.jlr_machine.specs.declared.machine.Call.TheVariants.{Free};
 ghost use Rattle.jlr_machine.specs.Objects.{at, change_at, empty_at, set_at};
 ghost use Rattle.jlr_machine.specs.Calls.{fresh_session};
-ghost use Rattle.jlr_roots.specs.Sessions.{lowest_handle, session_has_call, session_has_free_handle, slot_held};
+ghost use Rattle.jlr_roots.specs.Sessions.{lowest_handle, session_has_free_handle, slot_held};
 ghost use Rattle.jlr_roots.specs.Sessions.{session_in_call, with_slot};
 ghost use Rattle.jlr_roots.specs.Sessions.{without_handle};
 ghost use Rattle.jlr_marks.specs.Marking.{Shaded};
@@ -15,22 +14,16 @@ use crate::heap::Heap;
 use crate::shade::shade_target;
 use jlr_machine::machine::{Call, Session};
 use jlr_machine::table::Table;
+use jlr_roots::Roots;
 use jlr_types::{Handle, Mutator, Slot};
 use std::alloc::{AllocError, Global};
 
 impl Heap {
-    /// How many mutators there may be. Their numbers are those below.
-    pub fn mutator_count(&self) -> usize
-        ensures { result ≡ length self.now.graph.mutators }
+    /// The roots that mutators hold: which of them are joined, their handles, calls and fences.
+    pub fn roots(&self) -> &Roots
+        ensures { result.now ≡ self.now.graph.mutators }
     {
-        self.roots.mutator_count()
-    }
-
-    /// Whether a mutator is joined.
-    pub fn is_joined(&self, mutator: Mutator) -> bool
-        ensures { result ≡ is_some (at self.now.graph.mutators mutator) }
-    {
-        self.roots.is_joined(mutator)
+        &self.roots
     }
 
     /// A mutator joins, with no handle in use and no call.
@@ -55,13 +48,6 @@ impl Heap {
         ensures condemned { self.new.condemned ≡ self.old.condemned }
     {
         self.roots.leave(mutator);
-    }
-
-    /// Whether a mutator is joined and has a free handle: fewer than 250 are in use.
-    pub fn has_free_handle(&self, mutator: Mutator) -> bool
-        ensures { result ≡ session_has_free_handle self.now.graph.mutators mutator }
-    {
-        self.roots.has_free_handle(mutator)
     }
 
     /// The mutator holds a slot by its lowest free handle, if it has one.
@@ -90,34 +76,6 @@ impl Heap {
         ensures condemned { self.new.condemned ≡ self.old.condemned }
     {
         self.roots.drop_handle(mutator, handle);
-    }
-
-    /// The slot that a handle stands for, if it is in use.
-    pub fn lookup(&self, mutator: Mutator, handle: Handle) -> Option<Slot>
-        ensures { result ≡ slot_held self.now.graph.mutators mutator handle }
-    {
-        self.roots.lookup(mutator, handle)
-    }
-
-    /// What a mutator is in the middle of, if it is joined.
-    pub fn call(&self, mutator: Mutator) -> Option<Call>
-        ensures { result ≡ option_map (λ s. s.call) (at self.now.graph.mutators mutator) }
-    {
-        self.roots.call(mutator)
-    }
-
-    /// The slot that the call of a mutator holds, if the mutator is joined and has a fence.
-    pub fn fence(&self, mutator: Mutator) -> Option<Slot>
-        ensures { result ≡ option_and_then (λ s. s.fence) (at self.now.graph.mutators mutator) }
-    {
-        self.roots.fence(mutator)
-    }
-
-    /// Whether a mutator is joined and has a call in flight.
-    pub fn has_call(&self, mutator: Mutator) -> bool
-        ensures { result ≡ session_has_call self.now.graph.mutators mutator }
-    {
-        self.roots.has_call(mutator)
     }
 
     /// A mutator begins a call. Its fence is a root from now on, so this is one of the calls that make edges.

@@ -2,8 +2,8 @@
 ghost use Rattle.std.specs.Prelude.{◌≡◌, ℕ, ◌+◌, ◌++◌, ◌∷◌, [], ◌^◌, ◌<◌, IfOk, IfSome};
 ghost use Rattle.std.specs.Prelude.{IsTrue, MatchOption, None, false, true, ◌≤◌, List, Some, cond, drop, is_some};
 ghost use Rattle.std.specs.Prelude.{length, option_and_then, option_map, replicate, slice_get, slice_set};
-ghost use Rattle.jlr_machine.specs.Objects.{◌∈◌, as_cleanable, as_guard, as_reference, at, change_at, empty_at};
-ghost use Rattle.jlr_machine.specs.Objects.{occupied, set_at, some_and};
+ghost use Rattle.jlr_machine.specs.Objects.{◌∈◌, as_cleanable, as_guard, as_reference, at, change_at};
+ghost use Rattle.jlr_machine.specs.Objects.{occupied, some_and};
 ghost use Rattle.jlr_sets.specs.SlotSets.{is_in};
 ghost use Rattle.jlr_links.specs.Lists.{list_at};
 ghost use Rattle.jlr_cells.specs.Showing.{shown};
@@ -12,12 +12,11 @@ ghost use Rattle.jlr_machine.specs.Edges.Chain.{Strong};
 ghost use Rattle.jlr_machine.specs.Objects.{with_cleanable, with_field, with_members, with_reference};
 ghost use Rattle.jlr_machine.specs.Refusals.{is_cleanable, is_plain, is_queue, is_record, is_reference};
 ghost use Rattle.jlr_cells.specs.Contents.{field_at, is_array, is_ref, kind_of, member_in};
-ghost use Rattle.jlr_cells.specs.Contents.{members_in, object_in, object_of, objects_in, referent_in};
+ghost use Rattle.jlr_cells.specs.Contents.{members_in, object_in, objects_in, referent_in};
 ghost use Rattle.jlr_cells.specs.Contents.{with_list, with_lists};
 ghost use Rattle.jlr_cells.specs.Changes.{altered_cleanable, altered_reference};
 ghost use Rattle.jlr_cells.specs.Links.{cell_links, linked, linked_in, no_links};
 ghost use Rattle.jlr_machine.specs.declared.object.Object.TheVariants.{Plain};
-ghost use Rattle.jlr_machine.specs.declared.object.Contents.TheVariants.{Elements as ElementsOf};
 ghost use Rattle.jlr_cells.specs.Visits.{edges_told, elements_lent, elements_of};
 
 use crate::cell::Cell;
@@ -26,7 +25,7 @@ use crate::columns::Columns;
 use crate::elements::Elements;
 use crate::kinds::Kinds;
 use crate::links::{Links, Visited, target_of};
-use crate::shape::{Kind, Shape};
+use crate::shape::Kind;
 use jlr_links::Links as Lists;
 use jlr_links::column::Column;
 use jlr_machine::object::{Cleanable, Guard, Object, Reference};
@@ -100,35 +99,9 @@ impl Store {
         self.cells.len() as u32
     }
 
-    /// A new object is put at a slot. What lay there before, if anything, had no members.
-    pub fn put(&mut self, slot: Slot, shape: &Shape)
-        requires within { slot < length self.old }
-        requires members { members_in (at self.old slot) ≡ [] }
-        ensures { self.new ≡ set_at self.old slot (object_of shape.now) }
-    {
-        self.write(slot, Cell::new(shape));
-    }
-
-    /// An array of these elements is put at a slot. What lay there before, if anything, had no members.
-    pub fn put_array(&mut self, slot: Slot, elements: Elements)
-        requires within { slot < length self.old }
-        requires members { members_in (at self.old slot) ≡ [] }
-        ensures { self.new ≡ set_at self.old slot (Plain (ElementsOf elements)) }
-    {
-        self.write(slot, Cell::Array(elements));
-    }
-
-    /// Nothing lies at a slot any more. What lay there had no members. The memory of an array is given back.
-    pub fn empty(&mut self, slot: Slot)
-        requires within { slot < length self.old }
-        requires members { members_in (at self.old slot) ≡ [] }
-        ensures { self.new ≡ empty_at self.old slot }
-    {
-        self.write(slot, Cell::Free);
-    }
-
-    /// The cell of a slot is written. What lay there before, if anything, had no members.
-    fn write(&mut self, slot: Slot, cell: Cell)
+    /// A cell is put at a slot. What lay there before, if anything, had no members; the memory of an array is given
+    /// back.
+    pub(crate) fn put(&mut self, slot: Slot, cell: Cell)
         requires within { slot < length self.old }
         requires members { members_in (at self.old slot) ≡ [] }
         requires links { cell_links cell ≡ no_links }

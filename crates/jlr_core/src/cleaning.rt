@@ -49,7 +49,7 @@ pub(crate) fn make_cleaner<R>(
     state.check_session(by)?;
     state.check_no_call(by)?;
     state.check_free_handle(by)?;
-    let slot = state.allocate(Shape::Cleaner, choice)?;
+    let slot = state.allocate(&Shape::Cleaner, choice)?;
     Ok(state.give(by, slot))
 }
 
@@ -140,7 +140,7 @@ pub(crate) fn register<R>(
         action: ActionNo::new(state.cleaner.next_action()),
         work: Work::Note(note),
     };
-    match state.allocate(shape, choice) {
+    match state.allocate(&shape, choice) {
         Ok(slot) => {
             let _action = state.cleaner.register(slot);
             Ok(state.give(by, slot))

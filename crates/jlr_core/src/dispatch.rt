@@ -68,10 +68,7 @@ pub(crate) fn step_ask<R>(state: &mut State<R>, ask: &Ask, choice: &mut Choice) 
         Ask::CheckOut { mutator, guard } => state.check_out(mutator, guard),
         Ask::Close { mutator, guard } => cleaned(state.close(mutator, guard)),
         Ask::TakeUp => taken_up(cleaning::take_up(state)),
-        _ => Reply::Answered {
-            answer: step_plain(state, ask, choice),
-            resource: None,
-        },
+        _ => answered(step_plain(state, ask, choice)),
     }
 }
 
@@ -119,27 +116,14 @@ pub(crate) fn step_finish<R>(
     answer_to(cleaning::finish(state, by, action, outcome))
 }
 
-/// One ask of those that carry no resource, neither in nor out: what it is answered. It is lent.
+/// One ask of those that carry no resource, neither in nor out. It is lent.
 #[inline(never)]
 #[tactic(auto, using(jlr_state::proofs::Shading::same_only))]
-pub(crate) fn step_plain<R>(state: &mut State<R>, ask: &Ask, choice: &mut Choice) -> Answer
-    requires plain { carries_none ask.now ≡ true }
-    requires fit { IsWellFormed (machine_of state.old) }
-    requires waits { AllWait (machine_of state.old) state.old.cleaner.waiting }
-    requires nothing { choice.old ≡ nothing_chosen choice.old.cells }
-    requires room { length state.old.heap.graph.objects ≤ choice.old.cells }
-    ensures entry { StepsMachine (machine_of state.old) state.old.heap.marking (Some ask.now)
-        (Some result) choice.new.chosen (machine_of state.new) }
-    ensures rest { StepsState state.old (Event.Ask ask.now) (Some result) choice.new.chosen None state.new }
-    ensures room { choice.new.cells ≡ choice.old.cells }
-{
-    answer_to(answer(state, ask, choice))
-}
-
-/// One ask of those that carry no resource, neither in nor out.
-#[inline(always)]
-#[tactic(auto, using(jlr_state::proofs::Shading::same_only))]
-fn answer<R>(state: &mut State<R>, ask: &Ask, choice: &mut Choice) -> Result<Answer, Refusal>
+pub(crate) fn step_plain<R>(
+    state: &mut State<R>,
+    ask: &Ask,
+    choice: &mut Choice,
+) -> Result<Answer, Refusal>
     requires plain { carries_none ask.now ≡ true }
     requires fit { IsWellFormed (machine_of state.old) }
     requires waits { AllWait (machine_of state.old) state.old.cleaner.waiting }
@@ -241,7 +225,7 @@ fn answer<R>(state: &mut State<R>, ask: &Ask, choice: &mut Choice) -> Result<Ans
 
 /// What an ask is answered.
 #[inline(always)]
-fn answer_to(outcome: Result<Answer, Refusal>) -> Answer
+pub(crate) fn answer_to(outcome: Result<Answer, Refusal>) -> Answer
     ensures { result ≡ answer_of outcome }
 {
     match outcome {

@@ -9,7 +9,9 @@ ghost use Rattle.jlr_state.specs.Events.{carries_none};
 ghost use Rattle.jlr_core.specs.Steps.{IsEmpty, IsStep};
 ghost use Rattle.jlr_state.specs.TakeUps.{handed_out, take_up_answered};
 
-use crate::dispatch::{step, step_ask, step_cleaner, step_finish, step_handler, step_plain};
+use crate::dispatch::{
+    answer_to, step, step_ask, step_cleaner, step_finish, step_handler, step_plain,
+};
 use crate::queries;
 use jlr_cleaner::Job;
 use jlr_event::event::{Event, Reply};
@@ -111,7 +113,7 @@ impl<R> Core<R> {
         ensures cells { length self.new.machine.objects ≡ length self.old.machine.objects }
     {
         choice.clear();
-        step_plain(&mut self.state, ask, choice)
+        answer_to(step_plain(&mut self.state, ask, choice))
     }
 
     /// A piece of marking of at most so many ticks: what `step` does for a `Mark`, which chooses nothing. Nothing is
@@ -163,7 +165,7 @@ impl<R> Core<R> {
         match ask {
             Ask::Full { .. } => true,
             Ask::Collect => self.state.cycle_open,
-            _ => queries::lacks_room(&self.state, ask),
+            _ => self.state.heap.vacant_count() < ask.cells(),
         }
     }
 

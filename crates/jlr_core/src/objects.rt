@@ -191,7 +191,7 @@ pub(crate) fn new_object<R>(
     state.check_session(by)?;
     state.check_no_call(by)?;
     state.check_free_handle(by)?;
-    let slot = state.allocate(Shape::Plain(layout), choice)?;
+    let slot = state.allocate(&Shape::Plain(layout), choice)?;
     Ok(state.give(by, slot))
 }
 

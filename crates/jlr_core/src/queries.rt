@@ -1,22 +1,12 @@
-//! What a caller may look at before it asks: whether an ask lacks room, or would wait.
-ghost use Rattle.std.specs.Prelude.{◌≡◌, ◌↔◌, IsTrue, Some, not};
+//! What a caller may look at before it asks: whether an ask would wait.
+ghost use Rattle.std.specs.Prelude.{◌≡◌, ◌↔◌, IsTrue, Some};
 ghost use Rattle.jlr_machine.specs.Refusals.{refusal};
-ghost use Rattle.jlr_machine.specs.Run.{has_room};
 ghost use Rattle.jlr_machine.specs.WellFormed.{IsWellFormed};
-ghost use Rattle.jlr_state.specs.Looks.{cells_for};
 ghost use Rattle.jlr_state.specs.Machines.{machine_of};
 
 use crate::references;
-use jlr_machine::ask::Ask;
 use jlr_state::state::State;
 use jlr_types::{Handle, Mutator, Refusal};
-
-/// Whether fewer cells are free than the objects of an ask take.
-pub(crate) fn lacks_room<R>(state: &State<R>, ask: &Ask) -> bool
-    ensures { result ≡ not (has_room (machine_of state.now) (cells_for (Some ask.now))) }
-{
-    state.heap.vacant_count() < ask.cells()
-}
 
 /// Whether a `Remove` would be refused because its queue is empty, and nothing that comes before it in the order of
 /// refusals.

@@ -265,7 +265,7 @@ pub(crate) fn make_queue<R>(
     state.check_session(by)?;
     state.check_no_call(by)?;
     state.check_free_handle(by)?;
-    let slot = state.allocate(Shape::Queue, choice)?;
+    let slot = state.allocate(&Shape::Queue, choice)?;
     Ok(state.give(by, slot))
 }
 
@@ -299,7 +299,7 @@ pub(crate) fn make_reference<R>(
         referent: Some(target),
         queue,
     };
-    match state.allocate(shape, choice) {
+    match state.allocate(&shape, choice) {
         Ok(slot) => Ok(state.give(by, slot)),
         Err(refusal) => Err(refusal),
     }

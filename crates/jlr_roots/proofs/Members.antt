@@ -1,5 +1,6 @@
 -- The sessions in members, at one mutator.
-use Rattle.std.proofs.Common.{◌≡◌, ℕ, zero, suc, ◌<◌, true, false, List, [], ◌∷◌, Option, Some, None, length, set, get_or, replicate, refl, ap}
+use Rattle.std.proofs.Common.{◌≡◌, ℕ, zero, suc, ◌<◌, true, false, List, [], ◌∷◌, Option, Some, None, length, set, get_or, replicate}
+use Rattle.std.proofs.Common.{refl, ap}
 use Rattle.std.proofs.Common.{◌∙◌, arith, subst, inl, inr, length-set, get_or-set_same, get_or-set_other}
 use Rattle.std.specs.Prelude.{slice_get, is_some, option_and_then, option_map, if◌then◌else◌}
 use Rattle.std.proofs.lemmas.Bool.{cases_eq}

@@ -1,14 +1,18 @@
 -- A heap in which no cell is free after room was made.
-use Rattle.std.proofs.Common.{◌≡◌, ◌+◌, ◌<◌, ℕ, List, [], length, Option, Some, None, ◌∙◌, ap, subst, arith, refl}
-use Rattle.std.proofs.lemmas.Bool.{leb-true}
+use Rattle.std.proofs.Common.{◌≡◌, ◌+◌, ◌<◌, ◌≤◌, ℕ, zero, suc, List, [], ◌∷◌, ◌++◌, length, Option, Some, None, ◌∙◌, ap, subst, sym}
+use Rattle.std.proofs.Common.{arith, refl, cond, is_some}
+use Rattle.std.proofs.lemmas.Bool.{le-leb, leb-true}
+use Rattle.std.proofs.lemmas.List.Sums.{sum_by-cons}
 use Rattle.jlr_machine.specs.declared.machine.Machine.{Machine}
 use Rattle.jlr_machine.specs.Chosen.{Chosen}
 use Rattle.jlr_machine.specs.declared.entry.Collected.{Collected}
-use Rattle.jlr_machine.specs.Objects.{occupied}
-use Rattle.jlr_machine.specs.Choices.{Choosing}
+use Rattle.jlr_machine.specs.declared.object.Object.{Object}
+use Rattle.jlr_machine.specs.Objects.{Heap, at, occupied}
+use Rattle.jlr_machine.specs.Lookups.{with_new}
+use Rattle.jlr_machine.specs.Choices.{Choosing, nothing_chosen, with_fresh}
 use Rattle.jlr_machine.specs.Run.{with_collection}
 use Rattle.jlr_laws.proofs.ObjectLeft.{length_left}
-use Rattle.jlr_state.specs.Collecting.{MayMakeRoom, MakesRoom, FindsNoRoom}
+use Rattle.jlr_state.specs.Collecting.{Allocates, MayMakeRoom, MakesRoom, FindsNoRoom}
 
 chosen_is : (c : Chosen) (x : Option Collected) → c.collected ≡ x → c.fresh ≡ [] → c ≡ record { collected = x; fresh = [] }
 chosen_is c x e f =
@@ -35,6 +39,39 @@ finds_no_room m cells old new n r few =
             left = l;
           }
     ] refl r.asked r.left
+
+-- where a cell holds nothing, there is room
+one_more : (o : Object) (objects : Heap) → occupied (Some o ∷ objects) ≡ occupied objects + 1
+one_more o objects = omega (arith, sum_by-cons (λ (x : Option Object). cond (is_some x) 1 0) (Some o) objects)
+
+occupied_within : (objects : Heap) → occupied objects ≤ length objects
+occupied_within [] = omega arith
+occupied_within (None ∷ objects) = omega (arith, occupied_within objects)
+occupied_within (Some o ∷ objects) = omega (arith, occupied_within objects, one_more o objects)
+
+vacant_below : (objects : Heap) (slot : ℕ) → slot < length objects → at objects slot ≡ None → occupied objects < length objects
+vacant_below [] slot within free = absurd (omega (arith, within))
+vacant_below (None ∷ objects) slot within free = omega (arith, occupied_within objects)
+vacant_below (Some o ∷ objects) zero within free = cc
+vacant_below (Some o ∷ objects) (suc slot) within free =
+    omega (arith, one_more o objects, vacant_below objects slot (omega (arith, within)) free)
+
+-- a new object in a cell that was free is one without a collection
+pub allocates_free : (m : Machine) (o : Object) (old new : Choosing) (slot : ℕ) (n : Machine) → old ≡ nothing_chosen old.cells
+    → slot < length m.objects → at m.objects slot ≡ None → new ≡ with_fresh old (old.chosen.fresh ++ slot ∷ [])
+    → n ≡ with_new m slot o → Allocates m o new slot n
+allocates_free m o old new slot n nothing within free fresh left =
+    let chosen : new.chosen ≡ record { collected = None; fresh = slot ∷ [] } =
+    ap (λ (k : Choosing). k.chosen) (fresh ∙ ap (λ (k : Choosing). with_fresh k (k.chosen.fresh ++ slot ∷ [])) nothing) in
+    let none : new.chosen.collected ≡ None = ap (λ (x : Chosen). x.collected) chosen in
+    record {
+      asked = subst (MayMakeRoom m 1) (sym none)
+          (le-leb (occupied m.objects + 1) (length m.objects) (omega (arith, vacant_below m.objects slot within free)));
+      inside = subst (λ x. slot < length (with_collection m x).objects) (sym none) within;
+      free = subst (λ x. at (with_collection m x).objects slot ≡ None) (sym none) free;
+      fresh = ap (λ (x : Chosen). x.fresh) chosen;
+      left = left ∙ ap (λ x. with_new (with_collection m x) slot o) (sym none);
+    }
 
 -- a collection leaves the mutators as they are
 pub mutators_stay : (m : Machine) (x : Option Collected) (n : Machine) → n ≡ with_collection m x → n.mutators ≡ m.mutators

@@ -68,13 +68,43 @@ impl<R> State<R> {
 
     /// A new object in a free cell, after a full collection where none is free; refused where that leaves none free.
     /// What it refers to is held by a mutator.
-    pub fn allocate(&mut self, shape: Shape, choice: &mut Choice) -> Result<Slot, Refusal>
+    pub fn allocate(&mut self, shape: &Shape, choice: &mut Choice) -> Result<Slot, Refusal>
         requires fit { IsWellFormed (machine_of self.old) }
         requires nothing { choice.old ≡ nothing_chosen choice.old.cells }
         requires room { length self.old.heap.graph.objects ≤ choice.old.cells }
-        requires held { (s : ℕ) → s ∈ (strong_edges (object_of shape)
-            ++ option_to_list (any_referent (object_of shape))) → s ∈ slots_held self.old.heap.graph.mutators }
-        ensures allocates { IfOk result (λ slot. Allocates (machine_of self.old) (object_of shape) choice.new slot
+        requires held { (s : ℕ) → s ∈ (strong_edges (object_of shape.now)
+            ++ option_to_list (any_referent (object_of shape.now))) → s ∈ slots_held self.old.heap.graph.mutators }
+        ensures allocates { IfOk result (λ slot. Allocates (machine_of self.old) (object_of shape.now) choice.new slot
+            (machine_of self.new)) }
+        ensures rest { LeavesRestMaking self.old choice.old choice.new self.new }
+        ensures black { IfOk result (λ slot. IsMarked self.new.heap.marking slot) }
+        ensures full { IfErr result (λ r. (r ≡ Refusal.HeapFull)
+            × FindsNoRoom (machine_of self.old) 1 choice.new (machine_of self.new)) }
+        ensures one { IfOk result (λ slot. BlackensMade choice.new.chosen slot self.old.heap.marking
+            self.new.heap.marking) }
+    {
+        match self.heap.allocate(shape) {
+            Some(slot) => {
+                choice.add_fresh(slot);
+                Ok(slot)
+            }
+            None => self.allocate_with_room(shape, choice),
+        }
+    }
+
+    /// The same where no cell was free: room is made first.
+    #[inline(never)]
+    fn allocate_with_room(
+        &mut self,
+        shape: &Shape,
+        choice: &mut Choice,
+    ) -> Result<Slot, Refusal>
+        requires fit { IsWellFormed (machine_of self.old) }
+        requires nothing { choice.old ≡ nothing_chosen choice.old.cells }
+        requires room { length self.old.heap.graph.objects ≤ choice.old.cells }
+        requires held { (s : ℕ) → s ∈ (strong_edges (object_of shape.now)
+            ++ option_to_list (any_referent (object_of shape.now))) → s ∈ slots_held self.old.heap.graph.mutators }
+        ensures allocates { IfOk result (λ slot. Allocates (machine_of self.old) (object_of shape.now) choice.new slot
             (machine_of self.new)) }
         ensures rest { LeavesRestMaking self.old choice.old choice.new self.new }
         ensures black { IfOk result (λ slot. IsMarked self.new.heap.marking slot) }

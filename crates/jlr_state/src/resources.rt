@@ -46,7 +46,7 @@ impl<R> State<R> {
     fn fenced(&self, by: Mutator) -> Option<Guarded>
         ensures { result ≡ fenced_guard (machine_of self.now) by }
     {
-        let slot = self.heap.fence(by)?;
+        let slot = self.heap.roots().fence(by)?;
         let guard = self.heap.guard(slot)?;
         Some(Guarded { slot, guard })
     }
@@ -61,7 +61,7 @@ impl<R> State<R> {
             (λ r. (outcome : Outcome) → refusal (machine_of self.now) (Ask.Opened by outcome) ≡ Some r) }
     {
         self.check_session(by)?;
-        let Some(Call::Opening(_)) = self.heap.call(by) else {
+        let Some(Call::Opening(_)) = self.heap.roots().call(by) else {
             return Err(Refusal::NotOut);
         };
         match self.fenced(by) {
@@ -79,7 +79,7 @@ impl<R> State<R> {
             (λ r. (outcome : CallOutcome) → refusal (machine_of self.now) (Ask.CheckIn by outcome) ≡ Some r) }
     {
         self.check_session(by)?;
-        let Some(Call::Out(_)) = self.heap.call(by) else {
+        let Some(Call::Out(_)) = self.heap.roots().call(by) else {
             return Err(Refusal::NotOut);
         };
         match self.fenced(by) {

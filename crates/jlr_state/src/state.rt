@@ -135,7 +135,7 @@ impl<R> State<R> {
         ensures { MatchResult result (λ _. is_joined (machine_of self.now) by ≡ true)
             (λ r. (r ≡ Refusal.NoSession) × (is_joined (machine_of self.now) by ≡ false)) }
     {
-        if self.heap.is_joined(by) {
+        if self.heap.roots().is_joined(by) {
             Ok(())
         } else {
             Err(Refusal::NoSession)
@@ -155,7 +155,7 @@ impl<R> State<R> {
         if handle.number() == 0 {
             return Ok(None);
         }
-        match self.heap.lookup(by, handle) {
+        match self.heap.roots().lookup(by, handle) {
             Some(slot) => Ok(Some(slot)),
             None => Err(Refusal::NoHandle),
         }
@@ -174,7 +174,7 @@ impl<R> State<R> {
         if handle.number() == 0 {
             return Err(Refusal::Null);
         }
-        match self.heap.lookup(by, handle) {
+        match self.heap.roots().lookup(by, handle) {
             Some(slot) => Ok(slot),
             None => Err(Refusal::NoHandle),
         }
@@ -185,7 +185,7 @@ impl<R> State<R> {
         ensures { MatchResult result (λ _. has_free_handle (machine_of self.now) by ≡ true)
             (λ r. (r ≡ Refusal.HandlesFull) × (has_free_handle (machine_of self.now) by ≡ false)) }
     {
-        if self.heap.has_free_handle(by) {
+        if self.heap.roots().has_free_handle(by) {
             Ok(())
         } else {
             Err(Refusal::HandlesFull)
@@ -196,7 +196,7 @@ impl<R> State<R> {
     pub fn check_no_call(&self, by: Mutator) -> Result<(), Refusal>
         ensures { Checks result Refusal.Busy (has_call (machine_of self.now) by) }
     {
-        if self.heap.has_call(by) {
+        if self.heap.roots().has_call(by) {
             Err(Refusal::Busy)
         } else {
             Ok(())

@@ -6,6 +6,7 @@ ghost use Rattle.jlr_cells.specs.Contents.{is_array, members_in};
 ghost use Rattle.jlr_cells.specs.Showing.{shown};
 
 use crate::Store;
+use crate::cell::Cell;
 use jlr_sets::cell_set::CellSet;
 use jlr_types::Slot;
 
@@ -36,6 +37,6 @@ pub(crate) fn free_array(store: &mut Store, slot: Slot)
     ensures free { some_and is_array (at store.new slot) ≡ false }
 {
     if store.is_array(slot) {
-        store.empty(slot);
+        store.put(slot, Cell::Free);
     }
 }

@@ -20,6 +20,7 @@ ghost use Rattle.jlr_sets.specs.SlotSets.{is_in};
 ghost use Rattle.jlr_cells.specs.Showing.{shown};
 ghost use Rattle.jlr_cells.specs.Holding.{all_free, cells_in_use};
 
+use crate::cell::Cell;
 use crate::change::{CleanChange, RefChange};
 use crate::objects::arrays::{free_array, free_arrays};
 use crate::objects::lists::clear_lists;
@@ -113,7 +114,7 @@ impl Objects {
             return None;
         }
         let slot = self.occupancy.take();
-        self.store.put(slot, shape);
+        self.store.put(slot, Cell::new(shape));
         Some(slot)
     }
 
@@ -134,7 +135,7 @@ impl Objects {
             return Err(elements);
         }
         let slot = self.occupancy.take();
-        self.store.put_array(slot, elements);
+        self.store.put(slot, Cell::Array(elements));
         Ok(slot)
     }
 

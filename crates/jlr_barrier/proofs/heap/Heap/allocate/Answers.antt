@@ -9,7 +9,7 @@ pub invariant_of-self-2 : goal.invariant_of-self-2
 invariant_of-self-2 c =
     let s = c.self.inside in
     rw c.in_ok-slot.ensures.taken
-    (allocated_in_hand _ _ _ c.in_ok-slot.slot (object_of c.args.shape) _ c.blacken.new.self c.self.invariant
+    (allocated_in_hand _ _ _ c.in_ok-slot.slot (object_of c.args.shape.now) _ c.blacken.new.self c.self.invariant
     c.in_ok-slot.ensures.free.0 c.in_ok-slot.ensures.free.1 (length-set s.last_gets.items c.number.result s.collections)
     c.blacken.ensures.bits c.blacken.ensures.grey c.blacken.ensures.discovered c.blacken.ensures.part
     (rw (← c.self.view_is) at c.requires))

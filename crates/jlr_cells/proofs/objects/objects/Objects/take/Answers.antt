@@ -1,4 +1,5 @@
-use Rattle.std.proofs.Common.{◌∙◌, Some, true, ap, sym, subst, length, set, arith}
+use Rattle.std.proofs.Common.{◌∙◌, Option, Some, true, ap, sym, subst, length, set, arith}
+use Rattle.jlr_machine.specs.declared.object.Object.{Object}
 use Rattle.jlr_machine.specs.Objects.{Heap, at, set_at}
 use Rattle.jlr_cells.specs.Contents.{object_of}
 use Rattle.jlr_cells.specs.Showing.{shown}
@@ -46,8 +47,10 @@ pub invariant_of-self : goal.invariant_of-self
 invariant_of-self c =
     let s = c.self.inside in
     let n = c.take-slot.result in
-    subst (λ (h : Heap). AreShown h c.take-slot.new.self.places c.take-slot.new.self.used s.listed) (sym c.put.ensures)
-    (subst (λ p. AreShown (set_at s.store n (object_of c.args.shape.now)) p c.take-slot.new.self.used s.listed) (sym c.take-slot.ensures.taken)
+    subst (λ (h : Heap). AreShown h c.take-slot.new.self.places c.take-slot.new.self.used s.listed) (sym (c.put.ensures
+    ∙ ap (λ (o : Option Object). set s.store n o) c.new.ensures.object))
+    (subst (λ p. AreShown (set_at s.store n (object_of c.args.shape.now)) p c.take-slot.new.self.used s.listed)
+    (sym c.take-slot.ensures.taken)
     (subst (λ u. AreShown (set_at s.store n (object_of c.args.shape.now)) (set s.occupancy.places n true) u s.listed)
     (sym c.take-slot.ensures.used)
     (put_are s.store s.occupancy.places s.occupancy.used s.listed c.self.invariant n
@@ -59,7 +62,7 @@ returns-clause-taken c =
     let s = c.self.inside in
     let n = c.take-slot.result in
     ap (λ p. shown p c.put.new.self) c.take-slot.ensures.taken
-    ∙ ap (shown (set s.occupancy.places n true)) c.put.ensures
+    ∙ ap (shown (set s.occupancy.places n true)) (c.put.ensures ∙ ap (λ (o : Option Object). set s.store n o) c.new.ensures.object)
     ∙ shown_more s.occupancy.places s.store n (Some (object_of c.args.shape.now)) c.take-slot.ensures.within
     ∙ ap (λ (h : Holding). set_at h.objects n (object_of c.args.shape.now)) c.self.view_is
     ∙ ap (λ (h : Heap). set_at h n (object_of c.args.shape.now)) c.make_free.ensures.objects

@@ -35,11 +35,11 @@ returns-clause-free c = (
       c.make_free.new.self.objects (ap (λ (h : Holding). h.objects) c.self.view_is) c.take-slot.result c.take-slot.ensures.vacant,
 )
 
-pub put_array-requires-clause-within : goal.put_array-requires-clause-within
-put_array-requires-clause-within c = omega (arith, c.take-slot.ensures.within, c.self.invariant.places)
+pub put-requires-clause-within : goal.put-requires-clause-within
+put-requires-clause-within c = omega (arith, c.take-slot.ensures.within, c.self.invariant.places)
 
-pub put_array-requires-clause-members : goal.put_array-requires-clause-members
-put_array-requires-clause-members c =
+pub put-requires-clause-members : goal.put-requires-clause-members
+put-requires-clause-members c =
     none_lay c.self.inside.store c.self.inside.occupancy.places c.self.inside.occupancy.used c.self.inside.listed c.self.invariant
     c.take-slot.result (omega (arith, c.take-slot.ensures.within, c.self.invariant.places)) c.take-slot.ensures.vacant
 
@@ -47,7 +47,7 @@ pub invariant_of-self : goal.invariant_of-self
 invariant_of-self c =
     let s = c.self.inside in
     let n = c.take-slot.result in
-    subst (λ (h : Heap). AreShown h c.take-slot.new.self.places c.take-slot.new.self.used s.listed) (sym c.put_array.ensures)
+    subst (λ (h : Heap). AreShown h c.take-slot.new.self.places c.take-slot.new.self.used s.listed) (sym c.put.ensures)
     (subst (λ p. AreShown (set_at s.store n (Plain (Elements c.args.elements))) p c.take-slot.new.self.used s.listed)
     (sym c.take-slot.ensures.taken)
     (subst (λ u. AreShown (set_at s.store n (Plain (Elements c.args.elements))) (set s.occupancy.places n true) u s.listed)
@@ -60,8 +60,8 @@ pub returns-clause-taken : goal.returns-clause-taken
 returns-clause-taken c =
     let s = c.self.inside in
     let n = c.take-slot.result in
-    ap (λ p. shown p c.put_array.new.self) c.take-slot.ensures.taken
-    ∙ ap (shown (set s.occupancy.places n true)) c.put_array.ensures
+    ap (λ p. shown p c.put.new.self) c.take-slot.ensures.taken
+    ∙ ap (shown (set s.occupancy.places n true)) c.put.ensures
     ∙ shown_more s.occupancy.places s.store n (Some (Plain (Elements c.args.elements))) c.take-slot.ensures.within
     ∙ ap (λ (h : Holding). set_at h.objects n (Plain (Elements c.args.elements))) c.self.view_is
     ∙ ap (λ (h : Heap). set_at h n (Plain (Elements c.args.elements))) c.make_free.ensures.objects

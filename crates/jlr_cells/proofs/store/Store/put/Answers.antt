@@ -5,7 +5,7 @@ use Rattle.jlr_cells.specs.Keeping.{AreKept, AreOfQueues}
 use Rattle.jlr_cells.specs.Links.{no_links}
 use Rattle.jlr_cells.proofs.ByKind.{kept_put}
 use Rattle.jlr_cells.proofs.Queues.{kind_count, kinds_set, length_seen, link_count, members_seen, written_object}
-use Rattle.jlr_cells.proofs.store.Store.write.Goals as goal
+use Rattle.jlr_cells.proofs.store.Store.put.Goals as goal
 
 pub set-requires : goal.set-requires
 set-requires c = omega (

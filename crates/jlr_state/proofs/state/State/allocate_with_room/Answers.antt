@@ -2,7 +2,7 @@ use Rattle.std.proofs.Common.{◌≡◌, ◌+◌, refl, sym, subst, ap, ◌∙�
 use Rattle.jlr_machine.specs.Choices.{Choosing}
 use Rattle.jlr_machine.specs.Objects.{◌∈◌}
 use Rattle.jlr_roots.specs.Walk.{slots_held}
-use Rattle.jlr_barrier.specs.Graphs.{Graph}
+use Rattle.jlr_barrier.specs.Graphs.{Graph, Known}
 use Rattle.jlr_state.specs.Machines.{machine_of}
 use Rattle.jlr_state.specs.Collecting.{FindsNoRoom}
 use Rattle.jlr_state.specs.State.{machine_with}
@@ -10,13 +10,14 @@ use Rattle.jlr_state.proofs.Rooms.{finds_no_room}
 use Rattle.jlr_state.proofs.Hands.{held_in_hand}
 use Rattle.jlr_state.proofs.Rooms.{mutators_stay}
 use Rattle.jlr_marks.specs.Marking.{Blackened, Marking, marked}
-use Rattle.jlr_state.proofs.state.State.allocate.Goals as goal
+use Rattle.jlr_state.proofs.state.State.allocate_with_room.Goals as goal
 
 pub returns-in_default-clause-full : goal.returns-in_default-clause-full
 returns-in_default-clause-full g c = (
   refl,
   subst (λ (h : Graph). FindsNoRoom (machine_of c.args.self.now) 1 c.make_room.new.choice
-      (machine_with c.make_room.new.self.cleaner h c.make_room.new.self.cycle_open)) (sym c.in_default.ensures.none.0)
+      (machine_with c.make_room.new.self.cleaner h c.make_room.new.self.cycle_open))
+      (sym (ap (λ (h : Known). h.graph) c.in_default.ensures.none))
       (finds_no_room (machine_of c.args.self.now) 1 c.args.choice.now c.make_room.new.choice (machine_of c.make_room.new.self)
       c.make_room.ensures.made (omega (arith, c.in_default.ensures.full.0 refl))),
 )
