@@ -178,19 +178,15 @@ pub enum Command<'a> {
     },
 }
 
-/// Whether a field is this word. Most are told apart by their lengths.
+/// Whether a field is this word. Most are told apart by their lengths, the others one byte after the other: words are
+/// short.
 #[inline(always)]
 fn is(field: &[u8], word: &[u8]) -> bool
     ensures { result ≡ bytes_eq field.now word.now }
 {
-    field.len() == word.len() && is_same(field, word)
-}
-
-/// Whether two texts of one length are the same. They are compared one byte after the other: words are short.
-fn is_same(field: &[u8], word: &[u8]) -> bool
-    requires { length field.now ≡ length word.now }
-    ensures { result ≡ bytes_eq field.now word.now }
-{
+    if field.len() != word.len() {
+        return false;
+    }
     for i in 0..field.len() {
         if field[i] != word[i] {
             return false;
