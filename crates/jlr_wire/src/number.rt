@@ -69,20 +69,12 @@ fn short_number(text: &[u8]) -> Option<u32>
     ensures { IfSome result (λ n. text.now ≡ decimal n) }
 {
     match text {
-        [ones] if ones.is_ascii_digit() => Some(digit(*ones)),
+        [ones] if ones.is_ascii_digit() => Some(u32::from(*ones - b'0')),
         [tens, ones] if tens.is_ascii_digit() && *tens != b'0' && ones.is_ascii_digit() => {
-            Some(10 * digit(*tens) + digit(*ones))
+            Some(10 * u32::from(*tens - b'0') + u32::from(*ones - b'0'))
         }
         _ => None,
     }
-}
-
-/// The number that a digit stands for.
-fn digit(byte: u8) -> u32
-    requires { (48 ≤ byte) × (byte ≤ 57) }
-    ensures { result + 48 ≡ byte }
-{
-    u32::from(byte - b'0')
 }
 
 /// The number from 0 to 4,294,967,295 whose decimal text this is, or `None`.
