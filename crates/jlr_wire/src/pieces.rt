@@ -113,11 +113,13 @@ impl Pieces {
         ensures progress { 0 < length bytes.now → 0 < result.used }
     {
         if !self.unfinished() {
-            if let Some(size) = short_line(bytes) {
-                return Next {
-                    used: size + 1,
-                    at: LineAt::Bytes,
-                };
+            if let Some((line, _)) = cut_at(bytes, b'\n') {
+                if line.len() <= LINE_LIMIT {
+                    return Next {
+                        used: line.len() + 1,
+                        at: LineAt::Bytes,
+                    };
+                }
             }
         }
         self.next_held(bytes)
@@ -131,10 +133,9 @@ impl Pieces {
         ensures progress { 0 < length bytes.now → 0 < result.used }
     {
         let fed = self.feed(bytes);
-        let at = if fed.got == Got::More {
-            LineAt::Nowhere
-        } else {
-            LineAt::Held
+        let at = match fed.got {
+            Got::More => LineAt::Nowhere,
+            _ => LineAt::Held,
         };
         Next { used: fed.used, at }
     }
@@ -146,10 +147,10 @@ impl Pieces {
         requires bound { next.now.used ≤ length bytes.now }
         ensures { result.now ≡ line_at next.now.at next.now.used bytes.now self.now }
     {
-        if next.at == LineAt::Bytes {
-            return &bytes[..next.used - 1];
+        match next.at {
+            LineAt::Bytes => &bytes[..next.used - 1],
+            LineAt::Nowhere | LineAt::Held => self.line(),
         }
-        self.line()
     }
 
     /// The line that has just ended, without its end, or the bytes that have come of the line under
@@ -167,19 +168,6 @@ impl Pieces {
     {
         !self.ended && !self.held.is_empty()
     }
-}
-
-/// How many bytes the first line of these has, without its end, where one ends and has at most 512.
-#[inline(always)]
-fn short_line(bytes: &[u8]) -> Option<usize>
-    ensures { IfSome result (λ size. (front : List ℕ) × (rest : List ℕ) × (bytes.now ≡ front ++ 10 ∷ rest)
-        × IsInLine front × (size ≡ length front) × (size ≤ 512)) }
-{
-    let (line, _) = cut_at(bytes, b'\n')?;
-    if line.len() > LINE_LIMIT {
-        return None;
-    }
-    Some(line.len())
 }
 
 /// Empties what is held where its line has ended.
