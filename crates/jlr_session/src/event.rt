@@ -1,11 +1,10 @@
 //! The ask of a command that asks once.
 ghost use Rattle.std.specs.Prelude.{◌≡◌, true, IfSome};
-ghost use Rattle.jlr_machine.specs.declared.ask.Ask.TheVariants.{MakeRef};
 ghost use Rattle.jlr_event.specs.Asks.{carries_none};
 ghost use Rattle.jlr_session.specs.Asks.{ask_by};
 
 use jlr_machine::ask::Ask;
-use jlr_types::{Handle, Mutator, RefKind};
+use jlr_types::{Mutator, RefKind};
 use jlr_wire::command::Command;
 
 /// What a command that asks once asks in the name of a mutator. There is none for one that may ask twice, and for
@@ -58,9 +57,24 @@ pub(crate) fn ask_for(mutator: Mutator, command: &Command<'_>) -> Option<Ask>
             object,
             field,
         },
-        Command::Soft { referent, queue } => make(mutator, RefKind::Soft, referent, queue),
-        Command::Weak { referent, queue } => make(mutator, RefKind::Weak, referent, queue),
-        Command::Phantom { referent, queue } => make(mutator, RefKind::Phantom, referent, queue),
+        Command::Soft { referent, queue } => Ask::MakeRef {
+            mutator,
+            kind: RefKind::Soft,
+            referent,
+            queue,
+        },
+        Command::Weak { referent, queue } => Ask::MakeRef {
+            mutator,
+            kind: RefKind::Weak,
+            referent,
+            queue,
+        },
+        Command::Phantom { referent, queue } => Ask::MakeRef {
+            mutator,
+            kind: RefKind::Phantom,
+            referent,
+            queue,
+        },
         Command::Deref { reference } => Ask::Deref { mutator, reference },
         Command::Refers { reference, object } => Ask::Refers {
             mutator,
@@ -110,17 +124,4 @@ pub(crate) fn ask_for(mutator: Mutator, command: &Command<'_>) -> Option<Ask>
         | Command::Close { .. }
         | Command::Bye => return None,
     })
-}
-
-/// A reference of a kind is made.
-#[inline(always)]
-fn make(mutator: Mutator, kind: RefKind, referent: Handle, queue: Handle) -> Ask
-    ensures { result ≡ MakeRef mutator kind referent queue }
-{
-    Ask::MakeRef {
-        mutator,
-        kind,
-        referent,
-        queue,
-    }
 }
