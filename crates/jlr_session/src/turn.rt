@@ -1,7 +1,5 @@
 //! One line and its reply.
-ghost use Rattle.std.specs.Prelude.{◌≡◌, ◌↔◌, IsTrue, Ok};
 ghost use Rattle.jlr_session.specs.Turns.{AnswersRead, SendsReply, TurnEnds};
-ghost use Rattle.jlr_wire.specs.declared.command.Command.TheVariants.{Bye};
 
 use crate::carry::CarryOut;
 use crate::shell::SessionEnd;
@@ -24,29 +22,10 @@ fn answer_of<C: CarryOut<H, D>, H, D>(
     ensures { AnswersRead C.carries read.now (heap.old, device.old) answer.new (heap.new, device.new) }
 {
     match read {
-        Ok(command) => {
-            if is_bye(command) {
-                write_over(answer, Answer::Done);
-                return;
-            }
-            C::carry_out(heap, device, command, answer);
-        }
+        Ok(Command::Bye) => write_over(answer, Answer::Done),
+        Ok(command) => C::carry_out(heap, device, command, answer),
         Err(refusal) => write_over(answer, Answer::Refused(*refusal)),
     }
-}
-
-/// Whether a line that was read ends the session.
-fn is_last(read: &Result<Command<'_>, Refusal>) -> bool
-    ensures { IsTrue result ↔ (read.now ≡ Ok Bye) }
-{
-    matches!(read, Ok(Command::Bye))
-}
-
-/// Whether the command ends the session.
-fn is_bye(command: &Command<'_>) -> bool
-    ensures { IsTrue result ↔ (command.now ≡ Bye) }
-{
-    matches!(command, Command::Bye)
 }
 
 /// Writes a reply line and flushes.
@@ -78,8 +57,8 @@ pub fn answer_line<C: CarryOut<H, D>, H, D, W: Write>(
         return Some(SessionEnd::WriteFault);
     }
     C::settle(heap);
-    if is_last(&read) {
-        return Some(SessionEnd::Bye);
+    match read {
+        Ok(Command::Bye) => Some(SessionEnd::Bye),
+        _ => None,
     }
-    None
 }
