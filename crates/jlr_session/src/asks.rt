@@ -2,8 +2,8 @@
 ghost use Rattle.std.specs.Prelude.{◌≡◌, false, ⊤};
 ghost use Rattle.jlr_machine.specs.declared.ask.Ask.TheVariants as ask;
 ghost use Rattle.jlr_event.specs.Asks.{hands_in};
-ghost use Rattle.jlr_session.specs.Asks.{AsksOnce, AsksTwice, TellsOpened, TellsConnected, TellsRead, TellsWritten};
-ghost use Rattle.jlr_session.specs.Asks.{TellsFinished, prepared_by, out_by, job_by, ask_by};
+ghost use Rattle.jlr_session.specs.Asks.{AsksTwice, TellsOpened, TellsConnected, TellsRead, TellsWritten};
+ghost use Rattle.jlr_session.specs.Asks.{TellsFinished, prepared_by, out_by, job_by};
 
 use crate::call::{connected, opened, read_back, written_back};
 use crate::carry::CarryOut;
@@ -45,28 +45,15 @@ where
             Command::Write { guard, bytes } => write(heap, device, mutator, *guard, bytes, answer),
             Command::Clean { cleanable } => clean(heap, mutator, *cleanable, answer),
             Command::Close { guard } => close(heap, mutator, *guard, answer),
-            command => ask_once(heap, mutator, command, answer),
+            command => match ask_for(mutator, command) {
+                Some(ask) => heap.answer(ask, answer),
+                None => write_over(answer, Answer::Done),
+            },
         }
     }
 
     fn settle(heap: &mut P) {
         heap.settle();
-    }
-}
-
-/// Carries out a command that asks once.
-#[inline(always)]
-fn ask_once<P: Port<R>, R: Drop>(
-    port: &mut P,
-    mutator: Mutator,
-    command: &Command<'_>,
-    answer: &mut Answer,
-)
-    ensures { AsksOnce P.asking (ask_by mutator command.now) port.old answer.new port.new }
-{
-    match ask_for(mutator, command) {
-        Some(ask) => port.answer(ask, answer),
-        None => write_over(answer, Answer::Done),
     }
 }
 
