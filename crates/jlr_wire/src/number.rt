@@ -1,5 +1,5 @@
 //! The decimal numbers of a line.
-ghost use Rattle.std.specs.Prelude.{ℕ, ◌≡◌, ◌<◌, ◌≤◌, ◌+◌, ◌^◌, IfSome, IfNone, decimal};
+ghost use Rattle.std.specs.Prelude.{ℕ, ◌≡◌, ◌<◌, ◌^◌, IfSome, IfNone, decimal};
 ghost use Rattle.jlr_wire.specs.Fields.{byte_of, field_of, note_of};
 ghost use Rattle.jlr_wire.specs.Reading.{count_of, length_of};
 

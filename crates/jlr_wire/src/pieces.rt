@@ -1,7 +1,6 @@
 //! Lines out of a stream of bytes that comes in pieces.
-ghost use Rattle.std.specs.Prelude.{ℕ, List, ◌≡◌, ◌≤◌, ◌<◌, [], length, false, nat_lt, ◌&&◌, not, take, ◌++◌, ◌∷◌};
-ghost use Rattle.std.specs.Prelude.{cond, IfSome};
-ghost use Rattle.jlr_wire.specs.Lines.{HeldLine, IsInLine, nothing_held};
+ghost use Rattle.std.specs.Prelude.{◌≡◌, ◌≤◌, ◌<◌, [], length, false, nat_lt, ◌&&◌, not, take, ◌++◌, cond};
+ghost use Rattle.jlr_wire.specs.Lines.{HeldLine, nothing_held};
 ghost use Rattle.jlr_wire.specs.Feeding.{Feeds, FindsLine, line_at};
 
 use crate::cut::cut_at;
