@@ -108,7 +108,7 @@ fn take_chunk<C: CarryOut<H, D>, H, D, W: Write>(
         let next = pieces.next(rest);
         let line = pieces.line_at(rest, &next);
         rest = rest.split_at(next.used).1;
-        if next.at != LineAt::Nowhere {
+        if !matches!(next.at, LineAt::Nowhere) {
             if let Some(end) = answer_line::<C, H, D, W>(line, writer, heap, device) {
                 return Some(end);
             }

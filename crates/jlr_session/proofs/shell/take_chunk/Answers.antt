@@ -21,7 +21,7 @@ loop-rest-preserved-else-answered-eq-MOST_LINES g c =
     let few : c.loop-rest.answered + 1 < most_lines = omega (arith, c.loop-rest.invariant.0, c.if-answered-eq-MOST_LINES.false) in (
       few,
       rw c.split_at.ensures.back (taken_line _ _ _ _ _ _ _ _ _ _ _ _ _ _ _ _ _ c.loop-rest.invariant.1 c.next-next.ensures.line ended
-          c.line_at-line.ensures c.in_default.ensures),
+          c.line_at-line.ensures c.in_default-answer_line.ensures),
     )
 
 pub returns-then-answered-eq-MOST_LINES-clause-taken : goal.returns-then-answered-eq-MOST_LINES-clause-taken
@@ -29,7 +29,7 @@ returns-then-answered-eq-MOST_LINES-clause-taken g c =
     let ended : c.next-next.result.at ≢ Nowhere = search rules in
     taken_many _ _ _ _ _ _ _ _ _ _ _ c.if-answered-eq-MOST_LINES.true
     (taken_line _ _ _ _ _ _ _ _ _ _ _ _ _ _ _ _ _ c.loop-rest.invariant.1 c.next-next.ensures.line ended c.line_at-line.ensures
-    c.in_default.ensures)
+    c.in_default-answer_line.ensures)
 
 pub returns-in-Some-clause-taken : goal.returns-in-Some-clause-taken
 returns-in-Some-clause-taken g c =
