@@ -1,4 +1,4 @@
-use Rattle.std.proofs.Common.{◌≡◌, ℕ, Some, subst, sym, ◌∙◌}
+use Rattle.std.proofs.Common.{ℕ, subst}
 use Rattle.std.specs.Prelude.{Option}
 use Rattle.jlr_machine.specs.declared.ask.Ask.{Ask}
 use Rattle.jlr_session.specs.Asks.{AsksOnce, ask_by}
@@ -11,7 +11,6 @@ returns-in-Some g c =
     λ m. AsksOnce g.P.Port.asking (ask_by m c.args.command.now) c.args.heap.now c.answer.new.answer c.answer.new.self in
     let Q : Option Ask → Type 0 =
     λ asked. AsksOnce g.P.Port.asking asked c.args.heap.now c.answer.new.answer c.answer.new.self in
-    let asks : Some c.in-Some.ask ≡ ask_by c.mutator-mutator.result c.args.command.now = sym c.in-Some.is ∙ c.ask_for.ensures.ask in
     carried_once g.P.Port.asking (record {
       count = g.D.Device.count;
       opens = g.D.Device.may_open;
@@ -19,4 +18,4 @@ returns-in-Some g c =
       failures = g.D.Res.Resource.handling.count;
     }) g.D.Res.Resource.handling _ c.args.command.now _ _ _ _
     c.in_default.not-Open c.in_default.not-Connect c.in_default.not-Read c.in_default.not-Write c.in_default.not-Clean
-    c.in_default.not-Close (subst P c.mutator-mutator.ensures (subst Q asks c.answer.ensures.answered))
+    c.in_default.not-Close (subst P c.mutator-mutator.ensures (subst Q {y = ask_by c.mutator-mutator.result c.args.command.now} c.in-Some.ensures.ask c.answer.ensures.answered))
