@@ -94,11 +94,7 @@ impl<R> State<R> {
 
     /// The same where no cell was free: room is made first.
     #[inline(never)]
-    fn allocate_with_room(
-        &mut self,
-        shape: &Shape,
-        choice: &mut Choice,
-    ) -> Result<Slot, Refusal>
+    fn allocate_with_room(&mut self, shape: &Shape, choice: &mut Choice) -> Result<Slot, Refusal>
         requires fit { IsWellFormed (machine_of self.old) }
         requires nothing { choice.old ≡ nothing_chosen choice.old.cells }
         requires room { length self.old.heap.graph.objects ≤ choice.old.cells }
@@ -123,6 +119,35 @@ impl<R> State<R> {
 
     /// As `allocate`, for an array of these elements, which refer to nothing. Where no cell is left, they are let go.
     pub fn allocate_array(
+        &mut self,
+        elements: Elements,
+        choice: &mut Choice,
+    ) -> Result<Slot, Refusal>
+        requires fit { IsWellFormed (machine_of self.old) }
+        requires nothing { choice.old ≡ nothing_chosen choice.old.cells }
+        requires room { length self.old.heap.graph.objects ≤ choice.old.cells }
+        requires null { (s : ℕ) → s ∈ slots_in (ElementsOf elements) → ⊥ }
+        ensures allocates { IfOk result (λ slot. Allocates (machine_of self.old) (Plain (ElementsOf elements))
+            choice.new slot (machine_of self.new)) }
+        ensures rest { LeavesRestMaking self.old choice.old choice.new self.new }
+        ensures black { IfOk result (λ slot. IsMarked self.new.heap.marking slot) }
+        ensures full { IfErr result (λ r. (r ≡ Refusal.HeapFull)
+            × FindsNoRoom (machine_of self.old) 1 choice.new (machine_of self.new)) }
+        ensures one { IfOk result (λ slot. BlackensMade choice.new.chosen slot self.old.heap.marking
+            self.new.heap.marking) }
+    {
+        match self.heap.allocate_array(elements) {
+            Ok(slot) => {
+                choice.add_fresh(slot);
+                Ok(slot)
+            }
+            Err(elements) => self.allocate_array_with_room(elements, choice),
+        }
+    }
+
+    /// The same where no cell was free: room is made first.
+    #[inline(never)]
+    fn allocate_array_with_room(
         &mut self,
         elements: Elements,
         choice: &mut Choice,
