@@ -5,6 +5,7 @@ ghost use Rattle.jlr_machine.specs.WellFormed.{IsWellFormed};
 ghost use Rattle.jlr_state.specs.Machines.{machine_of};
 
 use crate::references;
+use jlr_machine::ask::Ask;
 use jlr_state::state::State;
 use jlr_types::{Handle, Mutator, Refusal};
 
