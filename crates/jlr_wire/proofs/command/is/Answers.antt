@@ -7,7 +7,8 @@ loop-i-init c = refl
 
 pub loop-i-preserved : goal.loop-i-preserved
 loop-i-preserved c =
-    sym (one_more c.args.field.now c.args.word.now c.loop-i.i c.loop-i-test.true c.if-field-word.false c.if-field-i.false) ∙ c.loop-i.invariant
+    sym (one_more c.args.field.now c.args.word.now c.loop-i.i c.loop-i-test.true c.if-field-word.false c.if-field-i.false)
+    ∙ c.loop-i.invariant
 
 pub returns : goal.returns
 returns c = sym (none_left c.args.field.now c.args.word.now c.loop-i.i c.loop-i-test.false c.if-field-word.false) ∙ c.loop-i.invariant

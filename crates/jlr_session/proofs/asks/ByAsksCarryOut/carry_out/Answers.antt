@@ -18,4 +18,5 @@ returns-in-Some g c =
       failures = g.D.Res.Resource.handling.count;
     }) g.D.Res.Resource.handling _ c.args.command.now _ _ _ _
     c.in_default.not-Open c.in_default.not-Connect c.in_default.not-Read c.in_default.not-Write c.in_default.not-Clean
-    c.in_default.not-Close (subst P c.mutator-mutator.ensures (subst Q {y = ask_by c.mutator-mutator.result c.args.command.now} c.in-Some.ensures.ask c.answer.ensures.answered))
+    c.in_default.not-Close (subst P c.mutator-mutator.ensures
+    (subst Q {y = ask_by c.mutator-mutator.result c.args.command.now} c.in-Some.ensures.ask c.answer.ensures.answered))
