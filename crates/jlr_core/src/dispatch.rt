@@ -116,7 +116,7 @@ pub(crate) fn step_finish<R>(
     answer_to(cleaning::finish(state, by, action, outcome))
 }
 
-/// One ask of those that carry no resource, neither in nor out. It is lent.
+/// One ask of those that carry no resource, neither in nor out: what it is answered, or why it is refused. It is lent.
 #[inline(never)]
 #[tactic(auto, using(jlr_state::proofs::Shading::same_only))]
 pub(crate) fn step_plain<R>(

@@ -17,9 +17,8 @@ pub(crate) fn join<R>(state: &mut State<R>, by: Mutator) -> Result<Answer, Refus
     ensures rest { LeavesRest state.old state.new }
     ensures marking { state.new.heap.marking ≡ state.old.heap.marking }
 {
-    if by.number() as usize >= state.heap.roots().mutator_count()
-        || state.heap.roots().is_joined(by)
-    {
+    let roots = state.heap.roots();
+    if by.number() as usize >= roots.mutator_count() || roots.is_joined(by) {
         return Err(Refusal::NoSession);
     }
     state.heap.join(by);

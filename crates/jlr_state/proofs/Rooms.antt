@@ -40,7 +40,7 @@ finds_no_room m cells old new n r few =
           }
     ] refl r.asked r.left
 
--- where a cell holds nothing, there is room
+-- an object more is one cell more that holds one
 one_more : (o : Object) (objects : Heap) → occupied (Some o ∷ objects) ≡ occupied objects + 1
 one_more o objects = omega (arith, sum_by-cons (λ (x : Option Object). cond (is_some x) 1 0) (Some o) objects)
 
@@ -49,6 +49,7 @@ occupied_within [] = omega arith
 occupied_within (None ∷ objects) = omega (arith, occupied_within objects)
 occupied_within (Some o ∷ objects) = omega (arith, occupied_within objects, one_more o objects)
 
+-- where a cell holds nothing, there is room
 vacant_below : (objects : Heap) (slot : ℕ) → slot < length objects → at objects slot ≡ None → occupied objects < length objects
 vacant_below [] slot within free = absurd (omega (arith, within))
 vacant_below (None ∷ objects) slot within free = omega (arith, occupied_within objects)

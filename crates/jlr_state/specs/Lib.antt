@@ -11,4 +11,3 @@ pub mod Preparing
 pub mod Policy
 pub mod Marks
 pub mod Events
-pub mod Looks

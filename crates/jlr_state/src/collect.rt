@@ -1,6 +1,6 @@
 //! The full collections that an ask makes: one that is asked for, and one that makes room for a new object.
 ghost use Rattle.std.specs.Prelude.{◌≡◌, ◌≤◌, ◌++◌, ℕ, None, Some, length, option_to_list, IfOk, IfErr};
-ghost use Rattle.jlr_machine.specs.Objects.{◌∈◌, any_referent};
+ghost use Rattle.jlr_machine.specs.Objects.{◌∈◌, any_referent, occupied};
 ghost use Rattle.jlr_machine.specs.Edges.{slots_in, strong_edges};
 ghost use Rattle.jlr_machine.specs.declared.object.Contents.TheVariants.{Elements as ElementsOf};
 ghost use Rattle.jlr_machine.specs.declared.object.Object.TheVariants.{Plain};
@@ -66,6 +66,23 @@ impl<R> State<R> {
         }
     }
 
+    /// A full collection that clears all soft references, where every cell holds an object.
+    fn collect_when_full(&mut self, choice: &mut Choice)
+        requires fit { IsWellFormed (machine_of self.old) }
+        requires nothing { choice.old ≡ nothing_chosen choice.old.cells }
+        requires room { length self.old.heap.graph.objects ≤ choice.old.cells }
+        requires full { occupied self.old.heap.graph.objects ≡ length self.old.heap.graph.objects }
+        ensures made { MakesRoom (machine_of self.old) 1 choice.old choice.new (machine_of self.new) }
+        ensures clock { self.new.heap.clock ≡ after_collected choice.new.chosen self.old.heap.clock }
+        ensures room { choice.new.cells ≡ choice.old.cells }
+        ensures cells { length self.new.heap.graph.objects ≡ length self.old.heap.graph.objects }
+        ensures age { self.new.soft_age ≡ self.old.soft_age }
+        ensures cleaner { self.new.cleaner ≡ self.old.cleaner }
+        ensures marks { choice.new.chosen.collected ≡ None → self.new.heap.marking ≡ self.old.heap.marking }
+    {
+        self.collect(Mode::ClearAll, choice);
+    }
+
     /// A new object in a free cell, after a full collection where none is free; refused where that leaves none free.
     /// What it refers to is held by a mutator.
     pub fn allocate(&mut self, shape: &Shape, choice: &mut Choice) -> Result<Slot, Refusal>
@@ -88,16 +105,17 @@ impl<R> State<R> {
                 choice.add_fresh(slot);
                 Ok(slot)
             }
-            None => self.allocate_with_room(shape, choice),
+            None => self.collect_and_allocate(shape, choice),
         }
     }
 
-    /// The same where no cell was free: room is made first.
+    /// The same where every cell holds an object, so that there is a collection.
     #[inline(never)]
-    fn allocate_with_room(&mut self, shape: &Shape, choice: &mut Choice) -> Result<Slot, Refusal>
+    fn collect_and_allocate(&mut self, shape: &Shape, choice: &mut Choice) -> Result<Slot, Refusal>
         requires fit { IsWellFormed (machine_of self.old) }
         requires nothing { choice.old ≡ nothing_chosen choice.old.cells }
         requires room { length self.old.heap.graph.objects ≤ choice.old.cells }
+        requires full { occupied self.old.heap.graph.objects ≡ length self.old.heap.graph.objects }
         requires held { (s : ℕ) → s ∈ (strong_edges (object_of shape.now)
             ++ option_to_list (any_referent (object_of shape.now))) → s ∈ slots_held self.old.heap.graph.mutators }
         ensures allocates { IfOk result (λ slot. Allocates (machine_of self.old) (object_of shape.now) choice.new slot
@@ -109,7 +127,7 @@ impl<R> State<R> {
         ensures one { IfOk result (λ slot. BlackensMade choice.new.chosen slot self.old.heap.marking
             self.new.heap.marking) }
     {
-        self.make_room(1, choice);
+        self.collect_when_full(choice);
         let Some(slot) = self.heap.allocate(shape) else {
             return Err(Refusal::HeapFull);
         };
@@ -141,13 +159,13 @@ impl<R> State<R> {
                 choice.add_fresh(slot);
                 Ok(slot)
             }
-            Err(elements) => self.allocate_array_with_room(elements, choice),
+            Err(elements) => self.collect_and_allocate_array(elements, choice),
         }
     }
 
-    /// The same where no cell was free: room is made first.
+    /// The same where every cell holds an object, so that there is a collection.
     #[inline(never)]
-    fn allocate_array_with_room(
+    fn collect_and_allocate_array(
         &mut self,
         elements: Elements,
         choice: &mut Choice,
@@ -155,6 +173,7 @@ impl<R> State<R> {
         requires fit { IsWellFormed (machine_of self.old) }
         requires nothing { choice.old ≡ nothing_chosen choice.old.cells }
         requires room { length self.old.heap.graph.objects ≤ choice.old.cells }
+        requires full { occupied self.old.heap.graph.objects ≡ length self.old.heap.graph.objects }
         requires null { (s : ℕ) → s ∈ slots_in (ElementsOf elements) → ⊥ }
         ensures allocates { IfOk result (λ slot. Allocates (machine_of self.old) (Plain (ElementsOf elements))
             choice.new slot (machine_of self.new)) }
@@ -165,7 +184,7 @@ impl<R> State<R> {
         ensures one { IfOk result (λ slot. BlackensMade choice.new.chosen slot self.old.heap.marking
             self.new.heap.marking) }
     {
-        self.make_room(1, choice);
+        self.collect_when_full(choice);
         let Ok(slot) = self.heap.allocate_array(elements) else {
             return Err(Refusal::HeapFull);
         };

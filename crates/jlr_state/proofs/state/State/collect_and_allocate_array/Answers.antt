@@ -6,15 +6,15 @@ use Rattle.jlr_state.specs.Collecting.{FindsNoRoom}
 use Rattle.jlr_state.specs.State.{machine_with}
 use Rattle.jlr_state.proofs.Rooms.{finds_no_room}
 use Rattle.jlr_marks.specs.Marking.{Blackened, Marking, marked}
-use Rattle.jlr_state.proofs.state.State.allocate_array_with_room.Goals as goal
+use Rattle.jlr_state.proofs.state.State.collect_and_allocate_array.Goals as goal
 
 pub returns-in_default-clause-full : goal.returns-in_default-clause-full
 returns-in_default-clause-full g c = (
   refl,
-  subst (λ (h : Graph). FindsNoRoom (machine_of c.args.self.now) 1 c.make_room.new.choice
-      (machine_with c.make_room.new.self.cleaner h c.make_room.new.self.cycle_open)) (sym c.in_default.ensures.back.1)
-      (finds_no_room (machine_of c.args.self.now) 1 c.args.choice.now c.make_room.new.choice (machine_of c.make_room.new.self)
-      c.make_room.ensures.made (omega (arith, c.in_default.ensures.full.0 refl))),
+  subst (λ (h : Graph). FindsNoRoom (machine_of c.args.self.now) 1 c.collect_when_full.new.choice
+      (machine_with c.collect_when_full.new.self.cleaner h c.collect_when_full.new.self.cycle_open)) (sym c.in_default.ensures.back.1)
+      (finds_no_room (machine_of c.args.self.now) 1 c.args.choice.now c.collect_when_full.new.choice (machine_of c.collect_when_full.new.self)
+      c.collect_when_full.ensures.made (omega (arith, c.in_default.ensures.full.0 refl))),
 )
 
 -- the elements refer to nothing
@@ -25,6 +25,6 @@ allocate_array-requires g c = λ s h. absurd (c.requires.null s h)
 pub returns-clause-one : goal.returns-clause-one
 returns-clause-one g c =
     λ none.
-    let same = c.make_room.ensures.marks (ap (λ (x : Choosing). x.chosen.collected) (sym c.add_fresh.ensures) ∙ none) in
+    let same = c.collect_when_full.ensures.marks (ap (λ (x : Choosing). x.chosen.collected) (sym c.add_fresh.ensures) ∙ none) in
     subst (λ (k : Marking). Blackened c.in-Ok.slot k c.allocate_array.new.self.marking
     × (marked c.allocate_array.new.self.marking ≡ marked k + 1)) same (c.in-Ok.ensures.black, c.in-Ok.ensures.count)
