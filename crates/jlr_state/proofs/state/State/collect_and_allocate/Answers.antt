@@ -18,8 +18,8 @@ returns-in_default-clause-full g c = (
   subst (λ (h : Graph). FindsNoRoom (machine_of c.args.self.now) 1 c.collect_when_full.new.choice
       (machine_with c.collect_when_full.new.self.cleaner h c.collect_when_full.new.self.cycle_open))
       (sym (ap (λ (h : Known). h.graph) c.in_default.ensures.none))
-      (finds_no_room (machine_of c.args.self.now) 1 c.args.choice.now c.collect_when_full.new.choice (machine_of c.collect_when_full.new.self)
-      c.collect_when_full.ensures.made (omega (arith, c.in_default.ensures.full.0 refl))),
+      (finds_no_room (machine_of c.args.self.now) 1 c.args.choice.now c.collect_when_full.new.choice
+      (machine_of c.collect_when_full.new.self) c.collect_when_full.ensures.made (omega (arith, c.in_default.ensures.full.0 refl))),
 )
 
 -- a collection leaves the handles as they are
