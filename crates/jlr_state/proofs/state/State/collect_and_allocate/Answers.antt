@@ -27,8 +27,8 @@ pub allocate-requires : goal.allocate-requires
 allocate-requires g c =
     λ s h.
     held_in_hand c.collect_when_full.new.self.heap s (subst (λ l. s ∈ slots_held l)
-    (sym (mutators_stay (machine_of c.args.self.now) c.collect_when_full.new.choice.chosen.collected (machine_of c.collect_when_full.new.self)
-    c.collect_when_full.ensures.made.left)) (c.requires.held s h))
+    (sym (mutators_stay (machine_of c.args.self.now) c.collect_when_full.new.choice.chosen.collected
+    (machine_of c.collect_when_full.new.self) c.collect_when_full.ensures.made.left)) (c.requires.held s h))
 
 -- where no collection was made, all else is as before
 pub returns-clause-one : goal.returns-clause-one
