@@ -3,7 +3,7 @@
 
     checks/unused.py
 
-What only itself and imports name is of no use. Left out are laws, the answers of proofs, lemmas that the prover finds by their names (`OF-WHAT`),
+What only itself and imports name is of no use, and a definition of specs that no other file brings in nor its own names. Left out are laws, the answers of proofs, lemmas that the prover finds by their names (`OF-WHAT`),
 three that it may find of itself, tests, and what programs outside call: the exports for C and the heap in process. Ends with status 1 where something is of no use.
 """
 import collections
@@ -16,6 +16,7 @@ PROVED = re.compile(r"[^\s(){}\[\],.;:=|λ×→]+")
 BODY = re.compile(r"\w+(?:-\w+)*|[^\s\w]")
 MADE = re.compile(r"^\s*((?:abbrev |opaque |pub |record |data )*)([^\s(){}\[\],.;:=]+)(.*)$")
 FUNCTION = re.compile(r"^(?:    pub(?:\(crate\))? |pub(?:\(crate\))? )?(?:const )?fn (\w+)(?!.*\(\)$)")
+BROUGHT = re.compile(r"use Rattle\.([\w.]+)(?:\.\{([^}]*)\}| as )")
 SKIPPED = re.compile(r"\s*(?:--|//|(?:ghost )?(?:pub )?use )")
 # A search may use these of itself; whether one does was not tried.
 UNTRIED = ("record_has_none", "cut_past_front", "ended_fault")
@@ -30,6 +31,29 @@ def sources():
                 path = os.path.join(folder, name)
                 with open(path, encoding="utf-8") as file:
                     yield path, [line for line in file.read().split("\n") if not SKIPPED.match(line)]
+
+
+def brought():
+    """The definitions that files bring in, by module, and each module that is brought in whole."""
+    names, whole = set(), set()
+    for folder, folders, files in os.walk(os.path.join(ROOT, "crates")):
+        folders[:] = [name for name in folders if name != "out"]
+        for name in files:
+            if name.endswith((".rt", ".antt")):
+                with open(os.path.join(folder, name), encoding="utf-8") as file:
+                    for module, words in BROUGHT.findall(file.read()):
+                        names.update((module, word.split(" as ")[0].strip()) for word in words.split(","))
+                        if not words:
+                            whole.add(module)
+    return names, whole
+
+
+def kept_alone(path, lines, names, whole):
+    """The definitions of a file of specs that nothing brings in, and that the file does not name itself."""
+    made, named = [], collections.Counter()
+    of_proofs(path, lines, made, named)
+    module = os.path.relpath(path, os.path.join(ROOT, "crates"))[: -len(".antt")].replace("/", ".")
+    return {(path, name) for _, name in made if named[name] <= 0 and (module, name) not in names and module not in whole}
 
 
 def of_proofs(path, lines, made, named):
@@ -67,10 +91,14 @@ def of_bodies(path, lines, made, named):
 
 
 def main():
-    made, named = [], collections.Counter()
+    made, named, alone = [], collections.Counter(), set()
+    names, whole = brought()
     for path, lines in sources():
         (of_proofs if path.endswith(".antt") else of_bodies)(path, lines, made, named)
-    idle = sorted({(os.path.relpath(path, ROOT), name) for path, name in made if named[name] <= 0 and name not in UNTRIED})
+        if "/specs/" in path:
+            alone |= kept_alone(path, lines, names, whole)
+    unnamed = {(path, name) for path, name in made if named[name] <= 0}
+    idle = sorted({(os.path.relpath(path, ROOT), name) for path, name in unnamed | alone if name not in UNTRIED})
     print("\n".join(f"{path}: nothing names {name}" for path, name in idle) if idle else "ok      nothing is of no use")
     sys.exit(bool(idle))
 
