@@ -200,6 +200,7 @@ def killed(program, folder):
     client.stdin.write(b"new -\n")
     wants("a session of which the server will be killed", client.stdout.readline(), b"= 1\n")
     server.process.send_signal(signal.SIGSTOP)
+    os.waitpid(server.process.pid, os.WUNTRACED)  # each of its threads has stopped
     fill(client.stdin)
     wants("the client waits", client.poll(), None)
     server.process.kill()
