@@ -196,7 +196,8 @@ def fill(pipe):
 def killed(program, folder):
     """A server that is killed while it has not read all that the client sent: the replies cannot be read."""
     server = Server(program, folder, 1)
-    client = subprocess.Popen([program, "client", server.path], stdin=subprocess.PIPE, stdout=subprocess.PIPE, stderr=subprocess.PIPE, bufsize=0)
+    pipe = subprocess.PIPE
+    client = subprocess.Popen([program, "client", server.path], stdin=pipe, stdout=pipe, stderr=pipe, bufsize=0)
     client.stdin.write(b"new -\n")
     wants("a session of which the server will be killed", client.stdout.readline(), b"= 1\n")
     server.process.send_signal(signal.SIGSTOP)
@@ -405,7 +406,8 @@ def speed(program, folder):
 
 def main():
     program = os.path.abspath(sys.argv[1])
-    for part in [at_terminal, from_pipe, from_pipe_to_terminal, killed, manual, greeting, figures, many_collections, progress, reasons, speed]:
+    clients = [at_terminal, from_pipe, from_pipe_to_terminal, killed]
+    for part in [*clients, manual, greeting, figures, many_collections, progress, reasons, speed]:
         with tempfile.TemporaryDirectory() as folder:
             part(program, folder)
     sys.exit(1 if WRONG else 0)

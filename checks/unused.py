@@ -3,7 +3,8 @@
 
     checks/unused.py
 
-What only itself and imports name is of no use, and a definition of specs that no other file brings in nor its own names. Left out are laws, the answers of proofs, lemmas that the prover finds by their names (`OF-WHAT`),
+What only itself and imports name is of no use, and a definition of specs that no other file brings in nor its own names.
+Left out are laws, the answers of proofs, lemmas that the prover finds by their names (`OF-WHAT`),
 three that it may find of itself, tests, and what programs outside call: the exports for C and the heap in process. Ends with status 1 where something is of no use.
 """
 import collections
@@ -53,7 +54,9 @@ def kept_alone(path, lines, names, whole):
     made, named = [], collections.Counter()
     of_proofs(path, lines, made, named)
     module = os.path.relpath(path, os.path.join(ROOT, "crates"))[: -len(".antt")].replace("/", ".")
-    return {(path, name) for _, name in made if named[name] <= 0 and (module, name) not in names and module not in whole}
+    if module in whole:
+        return set()
+    return {(path, name) for _, name in made if named[name] <= 0 and (module, name) not in names}
 
 
 def of_proofs(path, lines, made, named):
