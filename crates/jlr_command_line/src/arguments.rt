@@ -114,13 +114,16 @@ pub fn words(rt: &HostRuntime) -> Result<Vec<String>, ProgramFault>
     }
 }
 
-/// What the words ask for, the program's own name first among them.
+/// What the words ask for, the program's own name first among them. `--version` alone asks for what `version` does.
 ///
 /// # Errors
 /// A bad command line or a call for help, with the text that is said of it, or that memory ran out.
 pub fn order_of<'a>(alloc: Global, words: &'a [String]) -> Result<Order<'a>, ProgramFault>
     ensures { IfErr result (λ fault. (status_of fault ≡ 2) ⊎ (status_of fault ≡ 5)) }
 {
+    if asks_version(words) {
+        return Ok(Order::Version);
+    }
     let command = command(alloc).map_err(ProgramFault::NoMemory)?;
     let matches = parsed(command, words)?;
     if let Some(serve) = matches.subcommand_matches("serve") {
@@ -137,6 +140,11 @@ pub fn order_of<'a>(alloc: Global, words: &'a [String]) -> Result<Order<'a>, Pro
     }
     let run = run_of(alloc, matches.subcommand_matches("run"))?;
     Ok(Order::Run(run))
+}
+
+/// Whether the words are the program's name and `--version`.
+fn asks_version(words: &[String]) -> bool {
+    words.len() == 2 && words[1].as_str() == "--version"
 }
 
 /// What is asked for beside sessions, servers and audits.

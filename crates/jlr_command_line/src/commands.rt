@@ -1,4 +1,7 @@
 //! The commands of the program, with their options and what their help says.
+//!
+//! An option is a row of a table, from which `argument` makes what `clap` takes: a row costs the prover nothing, where
+//! the calls that make one option cost it seconds.
 use clap::{Arg, ArgAction, Command, value_parser};
 use std::alloc::{AllocError, Global};
 
@@ -47,6 +50,187 @@ const CLIENT_EXAMPLE: &str =
 /// An example of a `commands` that can be pasted.
 const COMMANDS_EXAMPLE: &str = "Example:\n  refheap commands weak";
 
+/// What an option takes.
+#[derive(Clone, Copy)]
+enum Takes {
+    /// A text, which may be left out.
+    Text,
+    /// A text.
+    Needed,
+    /// A number of this range, both bounds in it. Where it is left out, this text stands.
+    Number((i64, i64), &'static str),
+    /// A number of this range, both bounds in it.
+    NeededNumber((i64, i64)),
+    /// Nothing: the option is there or not.
+    Nothing,
+}
+
+/// How an option is given.
+#[derive(Clone, Copy, PartialEq, Eq)]
+enum Form {
+    /// By two hyphens and its name.
+    Named,
+    /// By its place alone.
+    Placed,
+}
+
+/// An option of a command: its form, its name, what its help calls its value, what it takes, and what its help says.
+type Row = (Form, &'static str, &'static str, Takes, &'static str);
+
+/// The options of a heap, and of the history that is left.
+const HEAP: [Row; 7] = [
+    (
+        Form::Named,
+        "cells",
+        "N",
+        Takes::Number((16, 65_536), "1024"),
+        "Number of cells of the heap, from 16 to 65536",
+    ),
+    (
+        Form::Named,
+        "resources",
+        "N",
+        Takes::Number((1, 256), "16"),
+        "Number of files and sockets that may be open at once, from 1 to 256",
+    ),
+    (
+        Form::Named,
+        "soft-age",
+        "N",
+        Takes::Number((0, 1_000), "4"),
+        "Number of collections for which a soft reference keeps its referent, from 0 to 1000",
+    ),
+    (
+        Form::Named,
+        "trace",
+        "N",
+        Takes::Number((64, 1_000_000), "10000"),
+        "Number of entries after which the trace is cut, from 64 to 1000000",
+    ),
+    (
+        Form::Named,
+        "files",
+        "DIR",
+        Takes::Text,
+        "Folder below which alone sessions open files and join sockets, by paths from there",
+    ),
+    (
+        Form::Named,
+        "no-files",
+        "",
+        Takes::Nothing,
+        "Sessions open no file and join no socket: each try is denied",
+    ),
+    (
+        Form::Named,
+        "save",
+        "FILE",
+        Takes::Text,
+        "Where the history is saved at the end",
+    ),
+];
+
+/// The options of a server, beside those of its heap.
+const SERVER: [Row; 7] = [
+    (
+        Form::Named,
+        "socket",
+        "PATH",
+        Takes::Needed,
+        "Where the Unix socket is made on which it listens",
+    ),
+    (
+        Form::Named,
+        "mode",
+        "MODE",
+        Takes::Text,
+        "Rights of the socket's file, which say who may connect: 600, 660 or 666; else those of the umask",
+    ),
+    (
+        Form::Named,
+        "control",
+        "PATH",
+        Takes::Text,
+        "Where a second Unix socket is made, at which `refheap stop` asks the server to end; it is there once the first listens",
+    ),
+    (
+        Form::Named,
+        "control-mode",
+        "MODE",
+        Takes::Text,
+        "Rights of the second socket's file: 600, the usual, 660 or 666",
+    ),
+    (
+        Form::Named,
+        "total",
+        "N",
+        Takes::NeededNumber((1, 1_000_000)),
+        "Number of clients after which it ends, from 1 to 1000000",
+    ),
+    (
+        Form::Named,
+        "sessions",
+        "N",
+        Takes::Number((1, 64), "4"),
+        "Number of clients that are served at once, from 1 to 64",
+    ),
+    (
+        Form::Named,
+        "budget",
+        "N",
+        Takes::Number((1, 4_096), "64"),
+        "Number of cells that the background marker visits at a time while all clients wait, from 1 to 4096",
+    ),
+];
+
+/// The options of a `stop`.
+const STOP: [Row; 1] = [(
+    Form::Placed,
+    "control",
+    "PATH",
+    Takes::Needed,
+    "What the server was given as --control",
+)];
+
+/// That of an `audit` alone: whether it says why, or what came before.
+const EXPLAIN: [Row; 1] = [(
+    Form::Named,
+    "explain",
+    "",
+    Takes::Nothing,
+    "Says why a history is not legal, or how many entries came before it",
+)];
+
+/// The options of what is told of a saved history.
+const HISTORY: [Row; 2] = [
+    (Form::Named, "json", "", Takes::Nothing, "Writes JSON"),
+    (
+        Form::Placed,
+        "file",
+        "FILE",
+        Takes::Needed,
+        "A saved history",
+    ),
+];
+
+/// The options of a `client`.
+const CLIENT: [Row; 1] = [(
+    Form::Placed,
+    "path",
+    "PATH",
+    Takes::Needed,
+    "The Unix socket of a server",
+)];
+
+/// The options of the manual.
+const MANUAL: [Row; 1] = [(
+    Form::Placed,
+    "name",
+    "NAME",
+    Takes::Text,
+    "A command of the line protocol",
+)];
+
 /// The program's command line.
 pub fn command<'a>(alloc: Global) -> Result<Command<'a>, AllocError> {
     let program = Command::new(alloc, "refheap")
@@ -60,7 +244,7 @@ pub fn command<'a>(alloc: Global) -> Result<Command<'a>, AllocError> {
     let program = with_subcommand(program, audit_command(alloc))?;
     let program = with_subcommand(program, stats_command(alloc))?;
     let program = with_subcommand(program, client_command(alloc))?;
-    let program = with_subcommand(program, commands_command(alloc))?;
+    let program = with_subcommand(program, manual_command(alloc))?;
     with_subcommand(program, version_command(alloc))
 }
 
@@ -79,94 +263,109 @@ fn with_subcommand<'a>(
     }
 }
 
-/// The command of a session.
-fn run_command<'a>(alloc: Global) -> Result<Command<'a>, AllocError> {
-    let run = Command::new(alloc, "run")
-        .about("Carries out commands from standard input, a line each, and answers each by a line")
-        .after_help(RUN_EXAMPLE);
-    with_heap(alloc, run)
+/// A command with the options of these rows.
+fn with_options<'a>(
+    alloc: Global,
+    command: Command<'a>,
+    rows: &[Row],
+) -> Result<Command<'a>, AllocError> {
+    let mut command = command;
+    for row in rows {
+        command = command.arg(argument(alloc, *row))?;
+    }
+    Ok(command)
 }
 
-/// A command with the options of its heap, and of the history that is left.
-fn with_heap<'a>(alloc: Global, command: Command<'a>) -> Result<Command<'a>, AllocError> {
-    command
-        .arg(cells_option(alloc))?
-        .arg(resources_option(alloc))?
-        .arg(soft_age_option(alloc))?
-        .arg(trace_option(alloc))?
-        .arg(files_option(alloc))?
-        .arg(no_files_option(alloc))?
-        .arg(save_option(alloc))
+/// The option of a row.
+fn argument<'a>(alloc: Global, row: Row) -> Arg<'a> {
+    let (form, name, value, takes, help) = row;
+    let argument = Arg::new(alloc, name).help(help);
+    let argument = match form {
+        Form::Named => argument.long(name),
+        Form::Placed => argument,
+    };
+    match takes {
+        Takes::Text => argument.value_name(value),
+        Takes::Needed => argument.value_name(value).required(true),
+        Takes::Number(range, usual) => number(argument, value, range).default_value(usual),
+        Takes::NeededNumber(range) => number(argument, value, range).required(true),
+        Takes::Nothing => argument.action(ArgAction::SetTrue),
+    }
+}
+
+/// The option with a number of this range, both bounds in it, for its value.
+fn number<'a>(argument: Arg<'a>, value: &'static str, (least, most): (i64, i64)) -> Arg<'a> {
+    argument
+        .value_name(value)
+        .value_parser(value_parser!(u32).range(least..=most))
+}
+
+/// A command with what its help says of it, in one sentence and behind its options.
+fn named<'a>(
+    alloc: Global,
+    name: &'static str,
+    about: &'static str,
+    example: &'static str,
+) -> Command<'a> {
+    Command::new(alloc, name).about(about).after_help(example)
+}
+
+/// The command of a session.
+fn run_command<'a>(alloc: Global) -> Result<Command<'a>, AllocError> {
+    let about = "Carries out commands from standard input, a line each, and answers each by a line";
+    with_options(alloc, named(alloc, "run", about, RUN_EXAMPLE), &HEAP)
 }
 
 /// The command of a server.
 fn serve_command<'a>(alloc: Global) -> Result<Command<'a>, AllocError> {
-    let serve = Command::new(alloc, "serve")
-        .about(
-            "Lets clients share one heap over a Unix socket, and ends when so many have been served",
-        )
-        .after_help(SERVE_EXAMPLE)
-        .arg(socket_option(alloc))?
-        .arg(mode_option(alloc))?
-        .arg(control_option(alloc))?
-        .arg(control_mode_option(alloc))?
-        .arg(total_option(alloc))?
-        .arg(sessions_option(alloc))?
-        .arg(budget_option(alloc))?;
-    with_heap(alloc, serve)
+    let about =
+        "Lets clients share one heap over a Unix socket, and ends when so many have been served";
+    let serve = with_options(alloc, named(alloc, "serve", about, SERVE_EXAMPLE), &SERVER)?;
+    with_options(alloc, serve, &HEAP)
 }
 
 /// The command that asks a server to end.
 fn stop_command<'a>(alloc: Global) -> Result<Command<'a>, AllocError> {
-    Command::new(alloc, "stop")
-        .about(
-            "Asks a server to end: it accepts no more, answers what was sent, saves, and is gone when this returns; asked twice, it cuts its clients off",
-        )
-        .after_help(STOP_EXAMPLE)
-        .arg(control_argument(alloc))
+    let about =
+        "Asks a server to end: it accepts no more, answers what was sent, saves, and is gone when this returns; asked twice, it cuts its clients off";
+    with_options(alloc, named(alloc, "stop", about, STOP_EXAMPLE), &STOP)
 }
 
 /// The command of an audit.
 fn audit_command<'a>(alloc: Global) -> Result<Command<'a>, AllocError> {
-    Command::new(alloc, "audit")
-        .about(
-            "Tells whether each step of a saved history was allowed, or which is the first that was not",
-        )
-        .after_help(AUDIT_EXAMPLE)
-        .arg(explain_option(alloc))?
-        .arg(json_option(alloc))?
-        .arg(file_argument(alloc))
+    let about =
+        "Tells whether each step of a saved history was allowed, or which is the first that was not";
+    let audit = with_options(alloc, named(alloc, "audit", about, AUDIT_EXAMPLE), &EXPLAIN)?;
+    with_options(alloc, audit, &HISTORY)
 }
 
 /// The command of the figures of a history.
 fn stats_command<'a>(alloc: Global) -> Result<Command<'a>, AllocError> {
-    Command::new(alloc, "stats")
-        .about(
-            "Tells the figures of a saved history: objects, collections, references, files, asks",
-        )
-        .after_help(STATS_EXAMPLE)
-        .arg(json_option(alloc))?
-        .arg(file_argument(alloc))
+    let about =
+        "Tells the figures of a saved history: objects, collections, references, files, asks";
+    with_options(alloc, named(alloc, "stats", about, STATS_EXAMPLE), &HISTORY)
 }
 
 /// The command of a session with a server.
 fn client_command<'a>(alloc: Global) -> Result<Command<'a>, AllocError> {
-    Command::new(alloc, "client")
-        .about(
-            "Sends commands from a terminal or from standard input to a server, and shows its replies",
-        )
-        .after_help(CLIENT_EXAMPLE)
-        .arg(path_argument(alloc))
+    let about =
+        "Sends commands from a terminal or from standard input to a server, and shows its replies";
+    with_options(
+        alloc,
+        named(alloc, "client", about, CLIENT_EXAMPLE),
+        &CLIENT,
+    )
 }
 
 /// The command of the manual.
-fn commands_command<'a>(alloc: Global) -> Result<Command<'a>, AllocError> {
-    Command::new(alloc, "commands")
-        .about(
-            "Lists the commands of the line protocol with their replies and refusals, or tells of one",
-        )
-        .after_help(COMMANDS_EXAMPLE)
-        .arg(name_argument(alloc))
+fn manual_command<'a>(alloc: Global) -> Result<Command<'a>, AllocError> {
+    let about =
+        "Lists the commands of the line protocol with their replies and refusals, or tells of one";
+    with_options(
+        alloc,
+        named(alloc, "commands", about, COMMANDS_EXAMPLE),
+        &MANUAL,
+    )
 }
 
 /// The command of the versions.
@@ -175,169 +374,4 @@ fn version_command<'a>(alloc: Global) -> Result<Command<'a>, AllocError> {
         "Tells the versions of the program and of trace files",
     );
     Ok(version)
-}
-
-// ---- Options
-
-/// An option whose value is a number of this range, both bounds in it.
-fn number_option<'a>(
-    alloc: Global,
-    name: &'a str,
-    (least, most): (i64, i64),
-    help: &'a str,
-) -> Arg<'a> {
-    Arg::new(alloc, name)
-        .long(name)
-        .value_name("N")
-        .help(help)
-        .value_parser(value_parser!(u32).range(least..=most))
-}
-
-/// How many cells the heap has.
-fn cells_option<'a>(alloc: Global) -> Arg<'a> {
-    let help = "Number of cells of the heap, from 16 to 65536";
-    number_option(alloc, "cells", (16, 65_536), help).default_value("1024")
-}
-
-/// How many files and sockets may be open at once.
-fn resources_option<'a>(alloc: Global) -> Arg<'a> {
-    let help = "Number of files and sockets that may be open at once, from 1 to 256";
-    number_option(alloc, "resources", (1, 256), help).default_value("16")
-}
-
-/// For how many collections a soft reference keeps its referent.
-fn soft_age_option<'a>(alloc: Global) -> Arg<'a> {
-    let help =
-        "Number of collections for which a soft reference keeps its referent, from 0 to 1000";
-    number_option(alloc, "soft-age", (0, 1_000), help).default_value("4")
-}
-
-/// After how many entries the trace is cut.
-fn trace_option<'a>(alloc: Global) -> Arg<'a> {
-    let help = "Number of entries after which the trace is cut, from 64 to 1000000";
-    number_option(alloc, "trace", (64, 1_000_000), help).default_value("10000")
-}
-
-/// Where the history is saved.
-fn save_option<'a>(alloc: Global) -> Arg<'a> {
-    Arg::new(alloc, "save")
-        .long("save")
-        .value_name("FILE")
-        .help("Where the history is saved at the end")
-}
-
-/// Where a server listens.
-fn socket_option<'a>(alloc: Global) -> Arg<'a> {
-    Arg::new(alloc, "socket")
-        .long("socket")
-        .value_name("PATH")
-        .help("Where the Unix socket is made on which it listens")
-        .required(true)
-}
-
-/// The rights of the socket's file.
-fn mode_option<'a>(alloc: Global) -> Arg<'a> {
-    Arg::new(alloc, "mode").long("mode").value_name("MODE").help(
-        "Rights of the socket's file, which say who may connect: 600, 660 or 666; else those of the umask",
-    )
-}
-
-/// Where a server is asked to end.
-fn control_option<'a>(alloc: Global) -> Arg<'a> {
-    Arg::new(alloc, "control")
-        .long("control")
-        .value_name("PATH")
-        .help(
-            "Where a second Unix socket is made, at which `refheap stop` asks the server to end; it is there once the first listens",
-        )
-}
-
-/// The rights of that file.
-fn control_mode_option<'a>(alloc: Global) -> Arg<'a> {
-    Arg::new(alloc, "control-mode")
-        .long("control-mode")
-        .value_name("MODE")
-        .help("Rights of the second socket's file: 600, the usual, 660 or 666")
-}
-
-/// Where a server is asked to end.
-fn control_argument<'a>(alloc: Global) -> Arg<'a> {
-    Arg::new(alloc, "control")
-        .value_name("PATH")
-        .help("What the server was given as --control")
-        .required(true)
-}
-
-/// Below which folder files and sockets may be opened.
-fn files_option<'a>(alloc: Global) -> Arg<'a> {
-    Arg::new(alloc, "files")
-        .long("files")
-        .value_name("DIR")
-        .help("Folder below which alone sessions open files and join sockets, by paths from there")
-}
-
-/// Whether no file and no socket may be opened.
-fn no_files_option<'a>(alloc: Global) -> Arg<'a> {
-    Arg::new(alloc, "no-files")
-        .long("no-files")
-        .help("Sessions open no file and join no socket: each try is denied")
-        .action(ArgAction::SetTrue)
-}
-
-/// After how many clients a server ends.
-fn total_option<'a>(alloc: Global) -> Arg<'a> {
-    let help = "Number of clients after which it ends, from 1 to 1000000";
-    number_option(alloc, "total", (1, 1_000_000), help).required(true)
-}
-
-/// How many clients are served at once.
-fn sessions_option<'a>(alloc: Global) -> Arg<'a> {
-    let help = "Number of clients that are served at once, from 1 to 64";
-    number_option(alloc, "sessions", (1, 64), help).default_value("4")
-}
-
-/// How many cells the background marker visits at a time.
-fn budget_option<'a>(alloc: Global) -> Arg<'a> {
-    let help =
-        "Number of cells that the background marker visits at a time while all clients wait, from 1 to 4096";
-    number_option(alloc, "budget", (1, 4_096), help).default_value("64")
-}
-
-/// Which history is audited.
-fn file_argument<'a>(alloc: Global) -> Arg<'a> {
-    Arg::new(alloc, "file")
-        .value_name("FILE")
-        .help("A saved history")
-        .required(true)
-}
-
-/// Whether what is told is JSON.
-fn json_option<'a>(alloc: Global) -> Arg<'a> {
-    Arg::new(alloc, "json")
-        .long("json")
-        .help("Writes JSON")
-        .action(ArgAction::SetTrue)
-}
-
-/// Where a client finds its server.
-fn path_argument<'a>(alloc: Global) -> Arg<'a> {
-    Arg::new(alloc, "path")
-        .value_name("PATH")
-        .help("The Unix socket of a server")
-        .required(true)
-}
-
-/// Of which command the manual tells.
-fn name_argument<'a>(alloc: Global) -> Arg<'a> {
-    Arg::new(alloc, "name")
-        .value_name("NAME")
-        .help("A command of the line protocol")
-}
-
-/// Whether an audit says why, or what came before.
-fn explain_option<'a>(alloc: Global) -> Arg<'a> {
-    Arg::new(alloc, "explain")
-        .long("explain")
-        .help("Says why a history is not legal, or how many entries came before it")
-        .action(ArgAction::SetTrue)
 }

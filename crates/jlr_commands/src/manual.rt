@@ -6,7 +6,7 @@ use std::alloc::Global;
 use std::io::Write;
 
 /// The versions of the program, and of the trace files that it reads; it writes the last of these.
-const VERSIONS: &str = "refheap 1\ntrace files 1 and 2\n";
+const VERSIONS: &str = "refheap 0.9.0, trace files 1 and 2\n";
 
 fn tell(writer: &mut impl Write, text: &str) -> Result<(), ProgramFault> {
     if writer.write_all(text.as_bytes()).is_err() || writer.flush().is_err() {
