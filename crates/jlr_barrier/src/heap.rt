@@ -28,7 +28,6 @@ use std::marker::Model;
 
 /// The objects of a heap with their roots. Contracts see the part of the machine that it keeps, its clock and its mark
 /// set. What the marker's loop reads stands in front, so that the instructions of the loop are short.
-#[derive(Drop)]
 pub struct Heap {
     pub(crate) marks: Marks,
     pub(crate) cells: Objects,
@@ -42,6 +41,22 @@ pub struct Heap {
     pub(crate) collections: u64,
     /// How many cells were taken since a collection finished last. It saturates.
     pub(crate) since_collection: u32,
+}
+
+// By hand: each exit of a caller then has one call, where a derived drop writes out every field.
+impl Drop for Heap {
+    fn drop(self) {
+        let Heap {
+            marks: _,
+            cells: _,
+            roots: _,
+            names: _,
+            lists: _,
+            last_gets: _,
+            collections: _,
+            since_collection: _,
+        } = self;
+    }
 }
 
 impl Model for Heap {

@@ -5,7 +5,7 @@ ghost use Rattle.jlr_machine.specs.Data.{Brings};
 ghost use Rattle.jlr_machine.specs.Refusals.{is_end, refusal};
 ghost use Rattle.jlr_event.specs.Asks.{carries_none, hands_in};
 ghost use Rattle.jlr_event.specs.Events.{ask_of, said_by};
-ghost use Rattle.jlr_core.specs.Events.{handed_out, take_up_answered};
+ghost use Rattle.jlr_steps.specs.Events.{handed_out, take_up_answered};
 ghost use Rattle.jlr_plain.specs.Records.{replayed};
 ghost use Rattle.jlr_book.specs.Due.{IsCycleDue};
 ghost use Rattle.jlr_book.specs.Kinds.{hands_in_or_marks, fits_fast_path};
@@ -21,7 +21,6 @@ use crate::event::decline;
 use crate::image::image::Image;
 use crate::room::ChoiceRoom;
 use jlr_cleaner::Job;
-use jlr_core::engine::Core;
 use jlr_event::event::{Event, Reply, ended, write_over};
 use jlr_machine::ask::{Answer, Ask, Handed, Outcome};
 use jlr_machine::choice::Choice;
@@ -29,6 +28,7 @@ use jlr_machine::data::{CopyRoom, Data};
 use jlr_machine::entry::Chosen;
 use jlr_machine::machine::Machine;
 use jlr_plain::record::Record;
+use jlr_steps::engine::Core;
 use jlr_types::{ActionNo, Handle, Limits, Mutator, Progress, Refusal};
 use std::alloc::{AllocError, Global};
 use std::marker::Model;
@@ -41,7 +41,6 @@ const PLACES: usize = 130;
 
 /// A core with its history. Contracts see what it tells: a machine, the entries since, and the core that stands where
 /// they end.
-#[derive(Drop)]
 pub struct Book<R> {
     alloc: Global,
     limits: Limits,
@@ -52,6 +51,21 @@ pub struct Book<R> {
     base: u64,
     /// A record of each entry since.
     trace: Vec<Record>,
+}
+
+// By hand: each exit of a caller then has one call, where a derived drop writes out every field.
+impl<R: Drop> Drop for Book<R> {
+    fn drop(self) {
+        let Book {
+            alloc: _,
+            limits: _,
+            core: _,
+            choice: _,
+            image: _,
+            base: _,
+            trace: _,
+        } = self;
+    }
 }
 
 impl<R> Model for Book<R> {

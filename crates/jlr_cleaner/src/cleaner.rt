@@ -43,7 +43,6 @@ pub struct Totals {
 
 /// The actions that wait, the jobs that run, what became of the others, and the files and sockets. `R` need not be
 /// `Drop`: none of them is lost here.
-#[derive(Drop)]
 pub struct Cleaner<R> {
     waiting: Waiting,
     running: Running,
@@ -51,6 +50,20 @@ pub struct Cleaner<R> {
     table: Table<R>,
     next_action: u64,
     taken: u64,
+}
+
+// By hand: each exit of a caller then has one call, where a derived drop writes out every field.
+impl<R: Drop> Drop for Cleaner<R> {
+    fn drop(self) {
+        let Cleaner {
+            waiting: _,
+            running: _,
+            outcomes: _,
+            table: _,
+            next_action: _,
+            taken: _,
+        } = self;
+    }
 }
 
 impl<R> Model for Cleaner<R> {

@@ -19,13 +19,25 @@ use std::alloc::{AllocError, Global};
 
 /// The heap, the soft age, in collections, what cleaning actions left and the files and sockets, whether a cycle is
 /// open, and where lists of an answer come from.
-#[derive(Drop)]
 pub struct State<R> {
     pub heap: Heap,
     pub soft_age: u32,
     pub cleaner: Cleaner<R>,
     pub cycle_open: bool,
     pub alloc: Global,
+}
+
+// By hand: each exit of a caller then has one call, where a derived drop writes out every field.
+impl<R: Drop> Drop for State<R> {
+    fn drop(self) {
+        let State {
+            heap: _,
+            soft_age: _,
+            cleaner: _,
+            cycle_open: _,
+            alloc: _,
+        } = self;
+    }
 }
 
 impl<R> State<R> {

@@ -25,7 +25,6 @@ use jlr_trace_fields::version::Version;
 use std::alloc::{AllocError, AllocFailed, Global};
 
 /// A history: what is at its head, and what happened from there on.
-#[derive(Drop)]
 pub struct TraceFile {
     /// The version of its spelling.
     pub version: Version,
@@ -37,6 +36,19 @@ pub struct TraceFile {
     pub strays: Items<Placed>,
     /// What happened, in order.
     pub entries: Items<Entry>,
+}
+
+// By hand: each exit of a caller then has one call, where a derived drop writes out every field.
+impl Drop for TraceFile {
+    fn drop(self) {
+        let TraceFile {
+            version: _,
+            base: _,
+            image: _,
+            strays: _,
+            entries: _,
+        } = self;
+    }
 }
 
 /// Why bytes are no trace file: the first fault from the front.

@@ -35,7 +35,6 @@ const CELLS_MADE: usize = 64;
 
 /// The machine before a trace. At a cut it takes the trace over, and follows it, entry by entry, with the calls that
 /// come then. Contracts see the machine to which the entries lead that are left, with no cycle open and nothing seen.
-#[derive(Drop)]
 pub struct Image {
     alloc: Global,
     limits: Limits,
@@ -48,6 +47,21 @@ pub struct Image {
     place: usize,
     /// Whether an array was made.
     arrays: bool,
+}
+
+// By hand: each exit of a caller then has one call, where a derived drop writes out every field.
+impl Drop for Image {
+    fn drop(self) {
+        let Image {
+            alloc: _,
+            limits: _,
+            machine: _,
+            cells: _,
+            records: _,
+            place: _,
+            arrays: _,
+        } = self;
+    }
 }
 
 impl Model for Image {

@@ -34,13 +34,23 @@ use std::alloc::{AllocError, Global};
 use std::marker::Model;
 
 /// The objects of the heap, by slot.
-#[derive(Drop)]
 pub struct Objects {
     store: Store,
     /// Which cells hold an object. What lies in another is nothing to callers.
     occupancy: Occupancy,
     /// The queues that were given a member since they were made, and some that were not.
     listed: CellSet,
+}
+
+// By hand: each exit of a caller then has one call, where a derived drop writes out every field.
+impl Drop for Objects {
+    fn drop(self) {
+        let Objects {
+            store: _,
+            occupancy: _,
+            listed: _,
+        } = self;
+    }
 }
 
 impl Model for Objects {
