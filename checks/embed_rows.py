@@ -1,4 +1,4 @@
-"""The worked sessions of crates/jlr_prog_rows by calls of the heap in this process, and random ones by calls and by `refheap run`.
+"""The worked sessions of crates/jlr_program_rows by calls of the heap in this process, and random ones by calls and by `refheap run`.
 
     python3 checks/embed_rows.py librefheap.so [PROGRAM]
 
@@ -14,7 +14,7 @@ here = os.path.dirname(os.path.abspath(__file__))
 sys.path.insert(0, os.path.join(here, "..", "examples"))
 import embed  # noqa: E402
 
-ROWS = os.path.join(here, "..", "crates", "jlr_prog_rows", "src", "tests")
+ROWS = os.path.join(here, "..", "crates", "jlr_program_rows", "src", "tests", "sessions")
 FAULTS = {1: "notfound", 2: "denied", 3: "other"}
 
 

@@ -18,6 +18,6 @@ tests() {
     done
 }
 
-tests jlr_plain_rows tests::memory::a_want_of_memory_leaves_the_machine || exit 1
-tests jlr_core_rows tests::memory::a_refused_growth_changes_nothing || exit 1
-"$here/starved.sh" jlr_core_rows tests::memory::a_heap_and_its_table_are_made tests::memory::each_other_event_takes_no_memory || exit 1
+tests jlr_low_rows tests::plain::memory::a_want_of_memory_leaves_the_machine || exit 1
+tests jlr_core_rows tests::events::memory::a_refused_growth_changes_nothing || exit 1
+"$here/starved.sh" jlr_core_rows tests::events::memory::a_heap_and_its_table_are_made tests::events::memory::each_other_event_takes_no_memory || exit 1

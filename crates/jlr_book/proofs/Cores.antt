@@ -1,3 +1,3 @@
 -- For crates above.
-pub use Rattle.jlr_core.proofs.Ranges.{limits_hold}
-pub use Rattle.jlr_core.proofs.RunLaws.{stands_at_start}
+pub use Rattle.jlr_steps.proofs.Ranges.{limits_hold}
+pub use Rattle.jlr_steps.proofs.Starts.{stands_at_start}

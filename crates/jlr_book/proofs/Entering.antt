@@ -36,9 +36,9 @@ use Rattle.jlr_event.specs.Events.{ask_of, answer_in}
 use Rattle.jlr_plain.specs.declared.record.Record.{Record}
 use Rattle.jlr_plain.specs.Records.{record_of, replayed}
 use Rattle.jlr_plain.proofs.Records.{one_more}
-use Rattle.jlr_core.specs.Cores.{Kept, StandsIn}
-use Rattle.jlr_core.specs.Events.{EntersLegally, carries_none, GoesOut, entry_of}
-use Rattle.jlr_core.specs.Steps.{IsStep, Steps}
+use Rattle.jlr_steps.specs.Cores.{Kept, StandsIn}
+use Rattle.jlr_steps.specs.Events.{EntersLegally, carries_none, GoesOut, entry_of}
+use Rattle.jlr_steps.specs.Steps.{IsStep, Steps}
 use Rattle.jlr_book.specs.Histories.{LeadsToCore, seated}
 use Rattle.jlr_book.specs.Kinds.{fits_fast_path}
 use Rattle.jlr_book.specs.Making.{SuitsChoice}

@@ -16,15 +16,15 @@ use Rattle.jlr_machine.specs.WellFormed.{IsImage, IsWellFormed}
 use Rattle.jlr_event.specs.declared.event.Event.{Event}
 use Rattle.jlr_event.specs.declared.event.Reply.{Reply}
 use Rattle.jlr_event.specs.Events.{ask_of, answer_in}
-use Rattle.jlr_core.specs.Cores.{Kept}
-use Rattle.jlr_core.specs.Steps.{IsStep}
+use Rattle.jlr_steps.specs.Cores.{Kept}
+use Rattle.jlr_steps.specs.Steps.{IsStep}
 use Rattle.jlr_book.specs.Histories.{LeadsToCore, HasLimits, HasNumbers, History, IsHistory, seated, spare}
 use Rattle.jlr_laws.proofs.Empty.{empty_is_well_formed}
 use Rattle.jlr_histories.specs.Owing.{owed, owed_by, most_owed}
 use Rattle.jlr_histories.proofs.Owing.{owed_bounded}
 use Rattle.jlr_book.proofs.Limits.{runs_keep_the_limits}
-use Rattle.jlr_core.proofs.Ranges.{limits_hold}
-use Rattle.jlr_core.proofs.RunLaws.{stands_at_start, start_cells}
+use Rattle.jlr_steps.proofs.Ranges.{limits_hold}
+use Rattle.jlr_steps.proofs.Starts.{stands_at_start, start_cells}
 use Rattle.jlr_book.specs.Rules.{AsksBy, BookSteps, Cuts, EndsBy, Enters, GivesUp, Readies, StepsBy}
 use Rattle.jlr_book.specs.Writing.{Stands}
 use Rattle.jlr_book.proofs.Entering.{WritesEnd, WritesEntry, closed, ends_more, owed_less_by, refused_stays, stands_for_its_own}

@@ -5,7 +5,7 @@ use Rattle.jlr_machine.specs.declared.ask.Ask.TheVariants.{Abandon}
 use Rattle.jlr_machine.specs.declared.ask.Answer.TheVariants.{Truth}
 use Rattle.jlr_event.specs.declared.event.Event.TheVariants.{Ask as Asks}
 use Rattle.jlr_event.specs.declared.event.Reply.TheVariants.{Answered}
-use Rattle.jlr_core.specs.Cores.{Kept}
+use Rattle.jlr_steps.specs.Cores.{Kept}
 use Rattle.jlr_book.specs.Histories.{History, IsHistory}
 use Rattle.jlr_book.specs.Rules.{Cuts, GivesUp, Readies}
 use Rattle.jlr_book.specs.Writing.{Stands}

@@ -10,8 +10,8 @@ use Rattle.jlr_machine.specs.Run.{Run, empty}
 use Rattle.jlr_machine.specs.WellFormed.{IsWellFormed, IsImage}
 use Rattle.jlr_laws.specs.Laws.{IsUpToDate}
 use Rattle.jlr_histories.specs.Owing.{owed}
-use Rattle.jlr_core.specs.Cores.{Kept, StandsIn}
-use Rattle.jlr_core.specs.Steps.{IsEmpty}
+use Rattle.jlr_steps.specs.Cores.{Kept, StandsIn}
+use Rattle.jlr_steps.specs.Steps.{IsEmpty}
 
 pub record History (R : Type 0) : Type 0 where
   pub limits : Limits

@@ -7,7 +7,7 @@ use Rattle.jlr_machine.specs.declared.machine.Machine.{Machine}
 use Rattle.jlr_plain.specs.declared.record.Record.{Record}
 use Rattle.jlr_plain.specs.Records.{replayed}
 use Rattle.jlr_histories.specs.Owing.{owed}
-use Rattle.jlr_core.specs.Cores.{Kept}
+use Rattle.jlr_steps.specs.Cores.{Kept}
 use Rattle.jlr_book.specs.Histories.{IsHistory}
 
 pub record KeepsBook {R : Type 0} (limits : Limits) (base : ℕ) (image : Machine) (trace : Vec Record) (core : Kept R)

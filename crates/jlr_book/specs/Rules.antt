@@ -15,8 +15,8 @@ use Rattle.jlr_event.specs.declared.event.Event.TheVariants.{Ask as Asks, Mark}
 use Rattle.jlr_event.specs.declared.event.Reply.{Reply}
 use Rattle.jlr_event.specs.declared.event.Reply.TheVariants.{Answered, Marked}
 use Rattle.jlr_event.specs.Events.{ask_of, answer_in, resource_of_event}
-use Rattle.jlr_core.specs.Cores.{Kept}
-use Rattle.jlr_core.specs.Steps.{IsStep, Steps}
+use Rattle.jlr_steps.specs.Cores.{Kept}
+use Rattle.jlr_steps.specs.Steps.{IsStep, Steps}
 use Rattle.jlr_book.specs.Histories.{History, HasNumbers, last, seated}
 
 -- ---- A cut

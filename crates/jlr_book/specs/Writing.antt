@@ -11,8 +11,8 @@ use Rattle.jlr_plain.specs.Records.{record_of}
 use Rattle.jlr_event.specs.declared.event.Event.{Event}
 use Rattle.jlr_event.specs.declared.event.Reply.{Reply}
 use Rattle.jlr_event.specs.Events.{ask_of, answer_in}
-use Rattle.jlr_core.specs.Cores.{Kept, StandsIn}
-use Rattle.jlr_core.specs.Steps.{IsStep, Steps}
+use Rattle.jlr_steps.specs.Cores.{Kept, StandsIn}
+use Rattle.jlr_steps.specs.Steps.{IsStep, Steps}
 use Rattle.jlr_book.specs.Histories.{History, seated}
 
 -- the core stands for some well-formed machine

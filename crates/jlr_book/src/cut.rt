@@ -1,7 +1,7 @@
 //! What a cut does to the trace and the core.
 ghost use Rattle.std.specs.Prelude.{◌≡◌, ◌≤◌, ◌<◌, ◌+◌, ◌^◌, true, false, cond, [], length, None};
 ghost use Rattle.std.specs.Prelude.{IfOk, OnOk, OnErr, vec_len, vec_capacity};
-ghost use Rattle.jlr_core.specs.Steps.{Steps};
+ghost use Rattle.jlr_steps.specs.Steps.{Steps};
 ghost use Rattle.jlr_machine.specs.WellFormed.{IsImage};
 ghost use Rattle.jlr_plain.specs.Records.{replayed};
 ghost use Rattle.jlr_book.specs.Histories.{LeadsToCore};
@@ -9,11 +9,11 @@ ghost use Rattle.jlr_book.specs.Rules.{GivesUp};
 ghost use Rattle.jlr_book.specs.Writing.{Stands};
 
 use crate::image::image::Image;
-use jlr_core::engine::Core;
 use jlr_event::event::{Event, Reply};
 use jlr_machine::ask::{Answer, Ask};
 use jlr_machine::choice::Choice;
 use jlr_plain::record::Record;
+use jlr_steps::engine::Core;
 use std::alloc::{AllocError, Global};
 
 /// Moves the image to the core's machine, with its cycle closed, and empties the trace: in a small heap by a copy, in a

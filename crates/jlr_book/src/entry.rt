@@ -4,10 +4,10 @@ ghost use Rattle.jlr_machine.specs.Refusals.{is_end};
 ghost use Rattle.jlr_event.specs.Asks.{hands_in};
 ghost use Rattle.jlr_machine.specs.declared.ask.Answer.{Answer as AnswerOf};
 ghost use Rattle.jlr_event.specs.Events.{answer_in, ask_of};
-ghost use Rattle.jlr_core.specs.Events.{take_up_answered};
+ghost use Rattle.jlr_steps.specs.Events.{take_up_answered};
 ghost use Rattle.jlr_histories.specs.Collecting.{may_collect};
 ghost use Rattle.jlr_histories.specs.Owing.{owed};
-ghost use Rattle.jlr_core.specs.Steps.{IsStep};
+ghost use Rattle.jlr_steps.specs.Steps.{IsStep};
 ghost use Rattle.jlr_book.specs.Kinds.{fits_fast_path};
 ghost use Rattle.jlr_book.specs.Making.{SuitsChoice};
 ghost use Rattle.jlr_book.specs.Writing.{AddsEnd, AddsRecord, Stands};
@@ -15,12 +15,12 @@ ghost use Rattle.jlr_machine.specs.Refusals.{is_refusal};
 
 use crate::room::ChoiceRoom;
 use jlr_cleaner::Job;
-use jlr_core::engine::Core;
 use jlr_event::event::{Event, Reply};
 use jlr_machine::ask::{Answer, Ask, Handed};
 use jlr_machine::choice::Choice;
 use jlr_machine::entry::Chosen;
 use jlr_plain::record::Record;
+use jlr_steps::engine::Core;
 use jlr_types::Refusal;
 
 /// An ask that is no end: one entry, in a place that is there. The core is lent the ask.

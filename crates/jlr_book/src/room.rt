@@ -2,9 +2,9 @@
 ghost use Rattle.std.specs.Prelude.{◌≤◌, IfOk, Some, length};
 ghost use Rattle.jlr_book.specs.Making.{SuitsChoice};
 
-use jlr_core::engine::Core;
 use jlr_machine::ask::Ask;
 use jlr_machine::choice::Choice;
+use jlr_steps::engine::Core;
 use std::alloc::{AllocError, Global};
 
 /// Room for what is chosen.

@@ -14,12 +14,12 @@ use jlr_command_line::arguments::Service;
 use jlr_command_line::fault::ProgramFault;
 use jlr_command_line::reason::{Place, Reason};
 use jlr_device::places::Inode;
+use jlr_listener::listener::{LineWatcher, Listener, SocketPlace};
+use jlr_listener::socket_file::remove_own;
 use jlr_server::Book;
 use jlr_server::hall::closing::CloseFault;
 use jlr_server::hall::history::Blank;
-use jlr_server::listener::{LineWatcher, Listener, SocketPlace};
-use jlr_server::server::{ServeFault, Served, Watched, serve_watched};
-use jlr_server::socket_file::remove_own;
+use jlr_server::server::{ServeFault, Served, serve_watched};
 use std::alloc::{AllocError, Global};
 use std::io::{self, Write};
 use std::marker::Brand;
@@ -145,7 +145,8 @@ fn served<T: Threads + Wait + Sync>(
         blank,
     );
     match done {
-        Ok(Watched { served, watcher }) => {
+        Ok(watched) => {
+            let (served, watcher) = watched.into_parts();
             Ok((closed_of(alloc, served, service.save.is_some()), watcher))
         }
         Err(fault) => Err(fault_of(alloc, fault, service.socket)),
@@ -159,16 +160,11 @@ fn closed_of<R: Drop, D: Drop>(alloc: Global, served: Served<R, D>, saves: bool)
     ensures saved { IsTrue saves ↔ IsSome result.history }
     ensures history { IfSome result.history (λ made. IfOk made (λ bytes. IsSaved served.book bytes.items)) }
 {
-    let Served {
-        accepts,
-        missed,
-        book,
-        devices,
-    } = served;
-    drop(devices);
-    let entries = book.last();
-    let history = history_of(alloc, &book, saves);
-    drop(book);
+    let accepts = served.accepts;
+    let missed = served.missed;
+    let entries = served.book.last();
+    let history = history_of(alloc, &served.book, saves);
+    drop(served);
     Closed {
         accepts,
         missed,

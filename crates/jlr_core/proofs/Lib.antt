@@ -1,4 +1,1 @@
-pub mod CoreSteps
-pub mod Ranges
 pub mod RunLaws
-pub mod Ticks

@@ -1,15 +1,11 @@
 -- A run goes on by one step.
 use Rattle.std.proofs.Common.{◌≡◌, ℕ, List, [], ◌∷◌, ◌++◌, Option, Some, None, is_some, refl, sym, ◌∙◌, ap, subst, append_assoc, append-nil}
-use Rattle.std.proofs.Common.{true, length}
-use Rattle.std.proofs.lemmas.Bool.{both_ways}
-use Rattle.std.proofs.lemmas.List.{length-replicate}
 use Rattle.std.specs.List.Sorted.{IsPermutation}
 use Rattle.std.proofs.lemmas.List.Sorted.{IsPermutation-append_comm, IsPermutation-append_left, IsPermutation-append_right}
 use Rattle.std.proofs.lemmas.List.Sorted.{IsPermutation-refl, IsPermutation-trans}
 use Rattle.jlr_types.specs.declared.limits.Limits.{Limits}
 use Rattle.jlr_resource.specs.Resources.{Resources, values}
 use Rattle.jlr_state.specs.Flows.{Conserves}
-use Rattle.jlr_machine.specs.declared.object.Object.{Object}
 use Rattle.std.specs.Option.{option_to_list}
 use Rattle.jlr_machine.specs.declared.machine.Machine.{Machine}
 use Rattle.jlr_machine.specs.declared.ask.Ask.{Ask}
@@ -23,8 +19,9 @@ use Rattle.jlr_event.specs.declared.event.Event.{Event}
 use Rattle.jlr_event.specs.declared.event.Reply.{Reply}
 use Rattle.jlr_event.specs.Events.{ask_of, answer_in, resource_of_event, resource_of_reply}
 use Rattle.jlr_state.specs.Events.{entry_with, EntersLegally}
-use Rattle.jlr_core.specs.Cores.{Kept, StandsIn}
-use Rattle.jlr_core.specs.Steps.{IsEmpty, IsStep}
+use Rattle.jlr_steps.specs.Cores.{Kept}
+use Rattle.jlr_steps.specs.Steps.{IsEmpty, IsStep}
+use Rattle.jlr_steps.proofs.Starts.{stands_at_start}
 use Rattle.jlr_core.specs.Runs.{entries_of, AreAnswered, AreSteps, IsRunOf, resources_of_events, resources_of_replies}
 
 -- ---- Lists with one more
@@ -155,10 +152,6 @@ flow_more {R} events replies old new e r before step =
 
 -- ---- The start
 
-pub stands_at_start : {R : Type 0} (core : Kept R) (cells sessions resources : ℕ) → core.machine ≡ empty cells sessions resources
-    → StandsIn core (empty cells sessions resources)
-stands_at_start core cells sessions resources e = record { same = e; seen = λ h. absurd (both_ways true (sym h) refl); outside = λ _. refl }
-
 pub start_run : {R : Type 0} (core : Kept R) (limits : Limits) (replies : List (Reply R)) → IsWellFormed (start_of limits)
     → IsEmpty limits.cells limits.sessions limits.resources limits.soft_age 1 core → replies ≡ [] → IsRunOf limits [] replies core
 start_run {R} core limits replies formed begins none =
@@ -182,9 +175,3 @@ start_flow {R} replies table none empty_table =
     let nothing : List R = [] in
     subst (λ l. IsPermutation nothing (resources_of_replies l ++ values table)) (sym none)
     (subst (λ l. IsPermutation nothing l) (sym empty_table) (IsPermutation-refl nothing))
-
-pub start_cells : {R : Type 0} (core : Kept R) (cells sessions resources : ℕ) → core.machine ≡ empty cells sessions resources
-    → length core.machine.objects ≡ cells
-start_cells core cells sessions resources e =
-    let none : Option Object = None in
-    ap (λ (x : Machine). length x.objects) e ∙ length-replicate cells none

@@ -10,9 +10,9 @@ use Rattle.jlr_histories.specs.Promises.{KeepsPromises}
 use Rattle.jlr_event.specs.declared.event.Event.{Event}
 use Rattle.jlr_event.specs.declared.event.Reply.{Reply}
 use Rattle.jlr_event.specs.Events.{ask_of, answer_in, resource_of_event, resource_of_reply}
-use Rattle.jlr_core.specs.Cores.{Kept, StandsIn}
+use Rattle.jlr_steps.specs.Cores.{Kept, StandsIn}
 use Rattle.jlr_state.specs.Events.{entry_with}
-use Rattle.jlr_core.specs.Steps.{IsEmpty, IsStep}
+use Rattle.jlr_steps.specs.Steps.{IsEmpty, IsStep}
 
 -- the entries of events with their replies and choices, in order. A piece of marking is none
 abbrev pub entries_of : {R : Type 0} → List (Event R) → List (Reply R) → List Chosen → List Entry

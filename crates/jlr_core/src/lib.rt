@@ -1,18 +1,8 @@
-//! The machine in code: one event at a time, whose reply and state are an entry of the machine.
+//! The core, and whole lists of events: `run` takes a list of events from the empty machine and carries the headline.
 //!
-//! A core is the state of `jlr_state` with all asks over it. `Core::step` takes any event; the asks that carry no
-//! resource have `Core::answer`, which is lent the ask, and what is frequent a call of its own. `run` takes a list of
-//! events and carries the headline. Memory is taken by `Core::new`, and by the asks of which `Core::step` says so.
+//! The core itself, which takes one event at a time, is `engine::Core`, from `jlr_steps`.
 #![tactic(auto)]
 
-mod cleaning;
-mod counts;
-mod dispatch;
-pub mod engine;
-mod handles;
-pub mod laws;
-mod names;
-mod objects;
-mod queries;
-mod references;
 pub mod run;
+
+pub use jlr_steps::engine;

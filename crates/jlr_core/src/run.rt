@@ -2,12 +2,12 @@
 ghost use Rattle.std.specs.Prelude.{◌≡◌, ◌++◌, IfOk, length};
 ghost use Rattle.std.specs.List.Sorted.{IsPermutation};
 ghost use Rattle.jlr_resource.specs.Resources.{values};
-ghost use Rattle.jlr_core.specs.Steps.{IsEmpty};
+ghost use Rattle.jlr_steps.specs.Steps.{IsEmpty};
 ghost use Rattle.jlr_core.specs.Runs.{IsRunOf, resources_of_events, resources_of_replies};
 
-use crate::engine::Core;
 use jlr_event::event::{Event, Reply};
 use jlr_machine::choice::Choice;
+use jlr_steps::engine::Core;
 use jlr_types::Limits;
 use std::alloc::{AllocError, Global};
 

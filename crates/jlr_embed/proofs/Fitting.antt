@@ -39,9 +39,9 @@ use Rattle.jlr_event.specs.declared.event.Event.{Event}
 use Rattle.jlr_event.specs.declared.event.Reply.{Reply}
 use Rattle.jlr_event.specs.declared.event.Reply.TheVariants.{Answered, Marked}
 use Rattle.jlr_event.specs.Events.{ask_of, resource_of_event}
-use Rattle.jlr_core.specs.Cores.{Kept}
-use Rattle.jlr_core.specs.Events.{EntersLegally, GoesOut, entry_of}
-use Rattle.jlr_core.specs.Steps.{IsEmpty, IsStep}
+use Rattle.jlr_steps.specs.Cores.{Kept}
+use Rattle.jlr_steps.specs.Events.{EntersLegally, GoesOut, entry_of}
+use Rattle.jlr_steps.specs.Steps.{IsEmpty, IsStep}
 use Rattle.jlr_embed.specs.Kinds.{GoesBack, tells_done, is_faulted, is_prepared, kind_of_call, kind_of_finish, is_handle, is_job_answer}
 use Rattle.jlr_embed.specs.Kinds.{is_integer}
 use Rattle.jlr_embed.specs.Kinds.{is_told, answer_kind, kind_of_open, kind_asked, suits}

@@ -16,9 +16,9 @@ use Rattle.jlr_machine.specs.Run.IsLegal.{carried_out, refused, heap_full, out_o
 use Rattle.jlr_laws.proofs.LegalKept.{no_need}
 use Rattle.jlr_event.specs.declared.event.Event.TheVariants.{Ask as Asks}
 use Rattle.jlr_event.specs.declared.event.Reply.TheVariants.{Answered}
-use Rattle.jlr_core.specs.Cores.{Kept, StandsIn}
-use Rattle.jlr_core.specs.Events.{entry_of}
-use Rattle.jlr_core.specs.Steps.{IsStep, Steps}
+use Rattle.jlr_steps.specs.Cores.{Kept, StandsIn}
+use Rattle.jlr_steps.specs.Events.{entry_of}
+use Rattle.jlr_steps.specs.Steps.{IsStep, Steps}
 use Rattle.jlr_embed.specs.Standing.{StandsForMachine}
 use Rattle.jlr_embed.specs.Settling.{HandsOverSteps}
 

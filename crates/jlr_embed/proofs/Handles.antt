@@ -27,7 +27,7 @@ use Rattle.std.specs.contracts.alloc.Global as heap
 use Rattle.std.proofs.alloc.Global.TheLaws as heap_laws
 use Rattle.std.specs.contracts.impls.GlobalAllocator.TheImpl.{ghosts}
 use Rattle.std.proofs.GlobalToken.{dealloc_token-Testable}
-use Rattle.jlr_core.specs.Cores.{Kept}
+use Rattle.jlr_steps.specs.Cores.{Kept}
 use Rattle.jlr_embed.specs.Held.{heap_held, heap_row as R}
 use Rattle.jlr_embed.specs.contracts.handle.handle.Heap as handle
 use Rattle.jlr_embed.proofs.Values.{both, both_tt}

@@ -10,8 +10,8 @@ use Rattle.jlr_event.specs.declared.event.Event.{Event}
 use Rattle.jlr_machine.specs.declared.ask.Ask.TheVariants.{HandOver}
 use Rattle.jlr_event.specs.declared.event.Event.TheVariants.{Ask as Asks, Mark}
 use Rattle.jlr_event.specs.declared.event.Reply.TheVariants.{Answered, Marked}
-use Rattle.jlr_core.specs.Cores.{Kept}
-use Rattle.jlr_core.specs.Steps.{IsEmpty, Steps}
+use Rattle.jlr_steps.specs.Cores.{Kept}
+use Rattle.jlr_steps.specs.Steps.{IsEmpty, Steps}
 
 -- a heap whose resources are tokens
 abbrev pub HeapOfTokens : Type 0

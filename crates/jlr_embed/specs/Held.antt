@@ -7,7 +7,7 @@ use Rattle.std.specs.Prelude.{ℕ, Option, None, Some}
 use Rattle.std.specs.Box.Ownership.{box_owns}
 use Rattle.std.specs.Global.{Global}
 use Rattle.std.specs.contracts.impls.GlobalAllocator.TheImpl.{ghosts}
-use Rattle.jlr_core.specs.Cores.{Kept}
+use Rattle.jlr_steps.specs.Cores.{Kept}
 use Rattle.jlr_embed.specs.contracts.unrecorded.Unrecorded.{the_row}
 
 -- the type of a heap whose resources are tokens

@@ -10,5 +10,5 @@ pub mod Ways
 -- What no clause of a crate above names.
 pub mod OneEvent
 -- For crates above.
-pub use Rattle.jlr_core.specs.Cores
-pub use Rattle.jlr_core.specs.Steps
+pub use Rattle.jlr_steps.specs.Cores
+pub use Rattle.jlr_steps.specs.Steps

@@ -3,7 +3,7 @@ use Rattle.std.specs.Prelude.{◌≡◌, ℕ, Option, Some, None}
 use Rattle.jlr_machine.specs.declared.ask.Answer.{Answer}
 use Rattle.jlr_event.specs.declared.event.Event.{Event}
 use Rattle.jlr_event.specs.declared.event.Reply.TheVariants.{Answered}
-use Rattle.jlr_core.specs.Steps.{Steps}
+use Rattle.jlr_steps.specs.Steps.{Steps}
 use Rattle.jlr_embed.specs.Calls.{HeapOfTokens}
 
 abbrev pub AskedOnce : Option HeapOfTokens → Event ℕ → Answer → Option HeapOfTokens → Type 0

@@ -2,15 +2,15 @@
 ghost use Rattle.std.specs.Prelude.{◌≡◌, ◌≢◌, ◌↔◌, ◌<◌, [], length};
 ghost use Rattle.std.specs.Prelude.{IfOk, IsTrue, None, Some, false, is_none, true};
 ghost use Rattle.jlr_event.specs.Events.{ask_of, resource_of_event};
-ghost use Rattle.jlr_core.specs.Events.{carries_none};
-ghost use Rattle.jlr_core.specs.Steps.{IsEmpty, Steps};
+ghost use Rattle.jlr_steps.specs.Events.{carries_none};
+ghost use Rattle.jlr_steps.specs.Steps.{IsEmpty, Steps};
 ghost use Rattle.jlr_embed.specs.Kinds.{GoesBack, is_told, kind_asked, suits};
 ghost use Rattle.jlr_embed.specs.Settling.{SettlesAll};
 
-use jlr_core::engine::Core;
 use jlr_event::event::{Event, Reply};
 use jlr_machine::ask::{Answer, Ask, Handed};
 use jlr_machine::choice::Choice;
+use jlr_steps::engine::Core;
 use jlr_types::{Limits, Progress};
 use std::alloc::{AllocError, Global};
 use std::marker::Model;
@@ -25,7 +25,7 @@ pub struct Unrecorded<R> {
 
 impl<R> Model for Unrecorded<R> {
     ghost use Rattle.std.specs.Prelude.{length, ◌≤◌};
-    ghost use Rattle.jlr_core.specs.Cores.{Kept};
+    ghost use Rattle.jlr_steps.specs.Cores.{Kept};
     ghost use Rattle.jlr_embed.specs.Standing.{StandsForMachine};
 
     ghost Value = { Kept R };

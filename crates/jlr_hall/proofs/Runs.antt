@@ -14,8 +14,8 @@ use Rattle.jlr_event.specs.declared.event.Event.{Event}
 use Rattle.jlr_event.specs.declared.event.Reply.{Reply}
 use Rattle.jlr_event.specs.Events.{ask_of, answer_in}
 use Rattle.jlr_state.specs.Events.{entry_with, EntersLegally}
-use Rattle.jlr_core.specs.Cores.{Kept}
-use Rattle.jlr_core.specs.Steps.{IsStep}
+use Rattle.jlr_steps.specs.Cores.{Kept}
+use Rattle.jlr_steps.specs.Steps.{IsStep}
 use Rattle.jlr_core.specs.Runs.{entries_of, AreAnswered, AreSteps, IsRunOf}
 use Rattle.jlr_book.specs.Histories.{empty_of}
 

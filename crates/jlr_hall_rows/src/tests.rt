@@ -3,5 +3,4 @@ mod book;
 mod called_off;
 mod cuts;
 mod missing;
-mod server;
 mod turns;

@@ -6,8 +6,8 @@ use Rattle.jlr_machine.specs.declared.ask.Ask.TheVariants as ask
 use Rattle.jlr_machine.specs.declared.ask.Answer.TheVariants as answer
 use Rattle.jlr_event.specs.declared.event.Event.TheVariants.{Ask as Asks}
 use Rattle.jlr_event.specs.declared.event.Reply.TheVariants.{Answered}
-use Rattle.jlr_core.specs.Cores.{Kept}
-use Rattle.jlr_core.specs.Steps.{IsStep, Steps}
+use Rattle.jlr_steps.specs.Cores.{Kept}
+use Rattle.jlr_steps.specs.Steps.{IsStep, Steps}
 use Rattle.jlr_embed.proofs.Fitting.{goes_back}
 use Rattle.jlr_embed.proofs.Handing.{less_pending}
 use Rattle.jlr_book.specs.Histories.{History, IsHistory}

@@ -13,8 +13,8 @@ use Rattle.jlr_event.specs.declared.event.Event.{Event}
 use Rattle.jlr_event.specs.declared.event.Reply.{Reply}
 use Rattle.jlr_event.specs.declared.event.Reply.TheVariants.{Answered, Marked}
 use Rattle.jlr_event.specs.Events.{ask_of, answer_in, resource_of_event, resource_of_reply}
-use Rattle.jlr_core.specs.Cores.{Kept}
-use Rattle.jlr_core.specs.Steps.{Steps}
+use Rattle.jlr_steps.specs.Cores.{Kept}
+use Rattle.jlr_steps.specs.Steps.{Steps}
 use Rattle.jlr_embed.specs.Kinds.{GoesBack, is_told, kind_asked, suits}
 use Rattle.jlr_embed.proofs.Fitting.{goes, goes_back, kind_told, not_marked}
 use Rattle.jlr_book.specs.Histories.{History, IsHistory}

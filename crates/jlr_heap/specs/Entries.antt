@@ -12,8 +12,8 @@ use Rattle.jlr_event.specs.declared.event.Event.{Event}
 use Rattle.jlr_event.specs.declared.event.Event.TheVariants.{Ask as Asks}
 use Rattle.jlr_event.specs.declared.event.Reply.{Reply}
 use Rattle.jlr_event.specs.declared.event.Reply.TheVariants.{Answered}
-use Rattle.jlr_core.specs.Cores.{Kept}
-use Rattle.jlr_core.specs.Steps.{IsEmpty, Steps}
+use Rattle.jlr_steps.specs.Cores.{Kept}
+use Rattle.jlr_steps.specs.Steps.{IsEmpty, Steps}
 use Rattle.jlr_session.specs.Asks.{Asking}
 use Rattle.jlr_embed.specs.Settling.{SettlesAll}
 use Rattle.jlr_heap.specs.declared.heap.Heap.{Heap}

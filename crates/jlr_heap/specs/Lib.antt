@@ -4,7 +4,7 @@ pub mod Guards
 pub mod Files
 pub mod Recording
 -- For crates above.
-pub use Rattle.jlr_core.specs.Cores
-pub use Rattle.jlr_core.specs.Steps
+pub use Rattle.jlr_steps.specs.Cores
+pub use Rattle.jlr_steps.specs.Steps
 pub use Rattle.jlr_embed.specs.Kinds
 pub use Rattle.jlr_embed.specs.Settling

@@ -1,6 +1,6 @@
 //! A heap with one mutator, 0, and what each kind of call on it is.
 ghost use Rattle.std.specs.Prelude.{◌≡◌, IfOk, MatchResult, Some, true};
-ghost use Rattle.jlr_core.specs.Events.{carries_none};
+ghost use Rattle.jlr_steps.specs.Events.{carries_none};
 ghost use Rattle.jlr_embed.specs.Kinds.{is_faults, is_handle, is_integer, is_names, is_notes, is_stat, is_truth};
 ghost use Rattle.jlr_embed.specs.Kinds.{kind_asked};
 ghost use Rattle.jlr_heap.specs.Entries.{CannotJoin, FollowsCall, HasJoined, IsDone, IsEntry, IsJoined, counts};

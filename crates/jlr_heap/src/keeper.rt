@@ -1,8 +1,8 @@
 //! What answers for a heap: with a history of what was asked, or with none.
 ghost use Rattle.std.specs.Prelude.{◌≡◌, false, is_none, true, None, Some};
 ghost use Rattle.jlr_machine.specs.Data.{Brings};
-ghost use Rattle.jlr_core.specs.Events.{carries_none};
-ghost use Rattle.jlr_core.specs.Steps.{Steps};
+ghost use Rattle.jlr_steps.specs.Events.{carries_none};
+ghost use Rattle.jlr_steps.specs.Steps.{Steps};
 ghost use Rattle.jlr_event.specs.Events.{ask_of, resource_of_event};
 ghost use Rattle.jlr_event.specs.declared.event.Event.TheVariants.{Ask as Asks};
 ghost use Rattle.jlr_event.specs.declared.event.Reply.TheVariants.{Answered};
@@ -18,7 +18,7 @@ use std::mem;
 pub trait Keeper {
     ghost use Rattle.std.specs.Prelude.{◌≡◌, false, is_none, true, None, Some};
     ghost use Rattle.jlr_machine.specs.Data.{Brings};
-    ghost use Rattle.jlr_core.specs.Events.{carries_none};
+    ghost use Rattle.jlr_steps.specs.Events.{carries_none};
     ghost use Rattle.jlr_event.specs.Events.{ask_of, resource_of_event};
     ghost use Rattle.jlr_event.specs.declared.event.Event.TheVariants.{Ask as Asks};
     ghost use Rattle.jlr_event.specs.declared.event.Reply.TheVariants.{Answered};

@@ -4,7 +4,7 @@ ghost use Rattle.std.specs.Prelude.{◌≡◌, ◌≢◌, ◌<◌, [], length};
 ghost use Rattle.std.specs.Prelude.{IfOk, IsTrue, MatchBool, None, Some, false, is_none, true};
 ghost use Rattle.jlr_machine.specs.Data.{Brings};
 ghost use Rattle.jlr_event.specs.Events.{ask_of, resource_of_event};
-ghost use Rattle.jlr_core.specs.Events.{carries_none};
+ghost use Rattle.jlr_steps.specs.Events.{carries_none};
 ghost use Rattle.jlr_embed.specs.Kinds.{GoesBack, is_told, kind_asked, suits};
 ghost use Rattle.jlr_book.specs.Histories.{IsHistory, IsNewBook};
 ghost use Rattle.jlr_book.specs.Rules.{BookSteps};

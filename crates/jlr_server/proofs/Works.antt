@@ -16,8 +16,8 @@ use Rattle.jlr_log.specs.Seeing.{Seen, seen}
 use Rattle.jlr_hall.specs.declared.step.Step.{Step}
 use Rattle.jlr_hall.specs.Loops.{AsksOnly, AsksInTurn, CleansIn, IsCleaners, IsHandlers, IsMarkers}
 use Rattle.jlr_hall.proofs.Turns.{same_seat, asks_none, cleans_none}
-use Rattle.jlr_server.specs.Giving.{Giving}
-use Rattle.jlr_server.specs.declared.acceptor.AcceptId.{AcceptId}
+use Rattle.jlr_listener.specs.Giving.{Giving}
+use Rattle.jlr_listener.specs.declared.acceptor.AcceptId.{AcceptId}
 use Rattle.jlr_server.specs.Serving.{Accepts, AllWork, IsMiss, IsSession, IsWork, ServesClients, Work, accept_at, devices_left}
 use Rattle.jlr_server.specs.Serving.{served, unserved}
 

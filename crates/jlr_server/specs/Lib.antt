@@ -1,5 +1,3 @@
 -- Reading order.
-pub mod News
-pub mod Giving
 pub mod Serving
 pub mod Tallies

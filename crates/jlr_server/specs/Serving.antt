@@ -17,8 +17,8 @@ use Rattle.jlr_hall.specs.Closing.{Closes}
 use Rattle.jlr_hall.specs.Loops.{AsksOnly, CleansIn, IsHandlers, IsMarkers}
 use Rattle.jlr_hall.specs.Ports.{by_seat}
 use Rattle.jlr_book.specs.Histories.{History}
-use Rattle.jlr_server.specs.Giving.{Giving}
-use Rattle.jlr_server.specs.declared.acceptor.AcceptId.{AcceptId}
+use Rattle.jlr_listener.specs.Giving.{Giving}
+use Rattle.jlr_listener.specs.declared.acceptor.AcceptId.{AcceptId}
 
 -- What was done at a seat: the seat as it was left, the device of its sessions, if it is one of sessions, before the
 -- first and behind the last of them, how many sessions were served there, and how many accepts gave none.

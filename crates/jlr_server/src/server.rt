@@ -11,9 +11,8 @@ ghost use Rattle.jlr_server.specs.Serving.{devices_left, seat_in};
 ghost use Rattle.jlr_server.specs.Tallies.{IsNew};
 ghost use Rattle.jlr_server.specs.declared.server.ServeFault.TheVariants.{Close, NoMemory};
 
-use crate::acceptor::Acceptor;
 use crate::accepts::{Accepts, Phase};
-use crate::watch::{Heard, News, NoWatcher, Watcher};
+use crate::clients::Heard;
 use crate::worked::{Same, Worked};
 use jlr_device::{Device, Resource};
 use jlr_hall::Book;
@@ -22,6 +21,8 @@ use jlr_hall::hall::Hall;
 use jlr_hall::history::{Blank, Naming};
 use jlr_hall::seat::Seat;
 use jlr_hall::step::{Limited, Step};
+use jlr_listener::acceptor::Acceptor;
+use jlr_listener::watch::{News, NoWatcher, Watcher};
 use jlr_types::{Fault, Limits};
 use std::alloc::{AllocError, AllocFailed, Global};
 use std::snapshot::Snapshot;
@@ -30,7 +31,6 @@ use std::thread;
 use std::thread::{PromisedHandle, Threads};
 
 /// What was served.
-#[derive(Drop)]
 pub struct Served<R, D> {
     /// How many clients were waited for, those that did not come among them.
     pub accepts: u32,
@@ -40,6 +40,18 @@ pub struct Served<R, D> {
     pub book: Book<R>,
     /// The devices, each as the last session at its seat left it.
     pub devices: Vec<D>,
+}
+
+// By hand: each exit of a caller then has one call, where a derived drop writes out every field.
+impl<R: Drop, D: Drop> Drop for Served<R, D> {
+    fn drop(self) {
+        let Served {
+            accepts: _,
+            missed: _,
+            book: _,
+            devices: _,
+        } = self;
+    }
 }
 
 /// Why nothing is given back of what was served.
@@ -80,10 +92,30 @@ impl From<CloseFault> for ServeFault {
 }
 
 /// What was served, and who watched, as it was left.
-#[derive(Drop)]
 pub struct Watched<R, D, W> {
     pub served: Served<R, D>,
     pub watcher: W,
+}
+
+// By hand: each exit of a caller then has one call, where a derived drop writes out every field.
+impl<R: Drop, D: Drop, W: Drop> Drop for Watched<R, D, W> {
+    fn drop(self) {
+        let Watched {
+            served: _,
+            watcher: _,
+        } = self;
+    }
+}
+
+impl<R, D, W> Watched<R, D, W> {
+    /// What was served, and who watched.
+    pub fn into_parts(self) -> (Served<R, D>, W)
+        ensures served { result.0 ≡ self.served }
+        ensures watcher { result.1 ≡ self.watcher }
+    {
+        let Watched { served, watcher } = self;
+        (served, watcher)
+    }
 }
 
 /// Serves clients by a seat while accepts are left.
@@ -447,7 +479,7 @@ where
         rt, alloc, limits, total, acceptor, NoWatcher, devices, blank,
     );
     match done {
-        Ok(Watched { served, .. }) => Ok(served),
+        Ok(watched) => Ok(watched.into_parts().0),
         Err(fault) => Err(fault),
     }
 }

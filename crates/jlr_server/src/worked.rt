@@ -9,7 +9,7 @@ ghost use Rattle.jlr_log.specs.Seeing.{seen};
 ghost use Rattle.jlr_hall.specs.Ports.{by_seat};
 ghost use Rattle.jlr_server.specs.Serving.{IsUnasked, IsWork, Stays, next_of};
 
-use crate::acceptor::{AcceptId, Acceptor, ClientVigil};
+use crate::clients::ClientVigil;
 use jlr_device::{Device, Resource};
 use jlr_hall::hall::Hall;
 use jlr_hall::history::Naming;
@@ -18,6 +18,7 @@ use jlr_hall::port::SeatPort;
 use jlr_hall::seat::Seat;
 use jlr_hall::step::Limited;
 use jlr_hall::vigil::Vigil;
+use jlr_listener::acceptor::{AcceptId, Acceptor};
 use jlr_session::serve::serve;
 use std::io::{Read, Write};
 use std::marker::{Model, PhantomData};
@@ -59,7 +60,6 @@ where
 /// A seat, and what was done there since its hall was opened: how many sessions were served, one after the other, and
 /// how many accepts gave no client. At a seat of a loop it is what that loop did. A seat of sessions has the device
 /// that opens their files and sockets; contracts also see that with which it began.
-#[derive(Drop)]
 pub struct Worked<A: Acceptor, D: Device, L: Naming + Limited> {
     seat: Seat<D::Res, L>,
     first: Snapshot<Option<D>>,
@@ -67,6 +67,20 @@ pub struct Worked<A: Acceptor, D: Device, L: Naming + Limited> {
     sessions: u32,
     missed: u32,
     of: PhantomData<A::In>,
+}
+
+// By hand: each exit of a caller then has one call, where a derived drop writes out every field.
+impl<A: Acceptor, D: Device + Drop, L: Naming + Limited> Drop for Worked<A, D, L> {
+    fn drop(self) {
+        let Worked {
+            seat: _,
+            first: _,
+            device: _,
+            sessions: _,
+            missed: _,
+            of: _,
+        } = self;
+    }
 }
 
 impl<A: Acceptor, D: Device, L: Naming + Limited> Model for Worked<A, D, L> {
@@ -229,7 +243,8 @@ where
             first,
             device,
             of,
-            ..
+            sessions: _,
+            missed: _,
         } = self;
         let budget = hall.budget(rt);
         Worked {
@@ -253,7 +268,8 @@ where
             first,
             device,
             of,
-            ..
+            sessions: _,
+            missed: _,
         } = self;
         Worked {
             seat: handler_loop(seat, rt, hall),
@@ -276,7 +292,8 @@ where
             first,
             device,
             of,
-            ..
+            sessions: _,
+            missed: _,
         } = self;
         Worked {
             seat: cleaner_loop(seat, rt, hall),
@@ -311,7 +328,8 @@ where
             device,
             sessions,
             missed,
-            ..
+            first: _,
+            of: _,
         } = self;
         (seat, device, sessions, missed)
     }

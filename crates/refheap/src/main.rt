@@ -3,8 +3,6 @@
 #![tactic(auto)]
 
 mod places;
-#[cfg(test)]
-mod tests;
 
 use jlr_command_line::report::status_after;
 use jlr_commands::program::run;

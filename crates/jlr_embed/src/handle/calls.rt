@@ -1,7 +1,7 @@
 //! Calls by kind: each is one event of the heap, and tells its answer.
 ghost use Rattle.std.specs.Prelude.{◌≡◌, MatchOption, IfSome, None, Some, false, is_none, true};
 ghost use Rattle.jlr_event.specs.Events.{ask_of};
-ghost use Rattle.jlr_core.specs.Events.{carries_none};
+ghost use Rattle.jlr_steps.specs.Events.{carries_none};
 ghost use Rattle.jlr_embed.specs.Kinds.{is_faults, is_handle, is_integer, is_job_answer, is_names, is_notes, is_lent};
 ghost use Rattle.jlr_embed.specs.Kinds.{is_stat};
 ghost use Rattle.jlr_embed.specs.Kinds.{is_told, is_truth, kind_asked, suits};

@@ -1,6 +1,6 @@
 //! What C holds: the pointer to a heap, or null.
 ghost use Rattle.std.specs.Prelude.{◌≡◌, MatchOption, None, Option, Some, ℕ};
-ghost use Rattle.jlr_core.specs.Cores.{Kept};
+ghost use Rattle.jlr_steps.specs.Cores.{Kept};
 
 use crate::Embedded;
 use crate::handle::loose::Loose;

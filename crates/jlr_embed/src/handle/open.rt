@@ -1,7 +1,7 @@
 //! How a heap is opened and closed.
 ghost use Rattle.std.specs.Prelude.{◌≡◌, ◌⊎◌, IfOk, None};
 ghost use Rattle.jlr_types.specs.Ranges.{first_fault};
-ghost use Rattle.jlr_core.specs.Steps.{IsEmpty};
+ghost use Rattle.jlr_steps.specs.Steps.{IsEmpty};
 ghost use Rattle.jlr_embed.specs.Calls.{OpensHeap, TellsLimit};
 
 use crate::Embedded;

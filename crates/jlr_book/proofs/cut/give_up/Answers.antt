@@ -2,7 +2,7 @@ use Rattle.std.proofs.Common.{None, subst}
 use Rattle.jlr_machine.specs.declared.ask.Ask.TheVariants.{Abandon}
 use Rattle.jlr_event.specs.declared.event.Event.TheVariants.{Ask as Asks}
 use Rattle.jlr_event.specs.declared.event.Reply.TheVariants.{Answered}
-use Rattle.jlr_core.specs.Steps.{IsStep}
+use Rattle.jlr_steps.specs.Steps.{IsStep}
 use Rattle.jlr_book.proofs.Entering.{abandons}
 use Rattle.jlr_book.proofs.cut.give_up.Goals as goal
 

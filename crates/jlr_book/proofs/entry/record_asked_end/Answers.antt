@@ -1,7 +1,7 @@
 use Rattle.std.proofs.Common.{List, [], ◌∷◌, ◌++◌, ap, refl, inl, inr, arith, sym, subst, ◌∙◌}
 use Rattle.jlr_plain.specs.declared.record.Record.{Record}
 use Rattle.jlr_event.specs.declared.event.Reply.TheVariants.{Answered}
-use Rattle.jlr_core.specs.Steps.{IsStep}
+use Rattle.jlr_steps.specs.Steps.{IsStep}
 use Rattle.jlr_event.specs.declared.event.Event.TheVariants.{Ask as Asks}
 use Rattle.jlr_book.proofs.Entering.{adds_record, end_chose, not_refused, owed_less_by, turned_away}
 use Rattle.jlr_book.proofs.entry.record_asked_end.Goals as goal

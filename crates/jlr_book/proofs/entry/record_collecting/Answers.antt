@@ -1,6 +1,6 @@
 use Rattle.std.proofs.Common.{List, [], ◌∷◌, ◌++◌, ap, refl, subst, sym, ◌∙◌}
 use Rattle.jlr_plain.specs.declared.record.Record.{Record}
-use Rattle.jlr_core.specs.Steps.{IsStep}
+use Rattle.jlr_steps.specs.Steps.{IsStep}
 use Rattle.jlr_event.specs.declared.event.Event.TheVariants.{Ask as Asks}
 use Rattle.jlr_book.proofs.Entering.{adds_record, answered}
 use Rattle.jlr_book.proofs.entry.record_collecting.Goals as goal

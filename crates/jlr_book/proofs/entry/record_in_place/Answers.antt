@@ -4,7 +4,7 @@ use Rattle.jlr_plain.specs.declared.record.Record.{Record}
 use Rattle.jlr_event.specs.declared.event.Event.{Event}
 use Rattle.jlr_event.specs.declared.event.Event.TheVariants.{Ask as Asks}
 use Rattle.jlr_event.specs.declared.event.Reply.TheVariants.{Answered}
-use Rattle.jlr_core.specs.Steps.{IsStep}
+use Rattle.jlr_steps.specs.Steps.{IsStep}
 use Rattle.jlr_book.proofs.Entering.{adds_record, brief_carries_none, chosen_plainly}
 use Rattle.jlr_book.proofs.entry.record_in_place.Goals as goal
 

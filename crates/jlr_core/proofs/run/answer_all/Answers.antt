@@ -9,7 +9,8 @@ use Rattle.jlr_event.specs.declared.event.Event.{Event}
 use Rattle.jlr_event.specs.declared.event.Reply.{Reply}
 use Rattle.jlr_core.specs.Runs.{IsRunOf, resources_of_events, resources_of_replies}
 use Rattle.jlr_state.proofs.Ranges.{limits_hold}
-use Rattle.jlr_core.proofs.RunLaws.{run_more, flow_more, start_run, start_flow, start_cells}
+use Rattle.jlr_core.proofs.RunLaws.{run_more, flow_more, start_run, start_flow}
+use Rattle.jlr_steps.proofs.Starts.{start_cells}
 use Rattle.jlr_core.proofs.run.answer_all.Goals as goal
 
 pub loop-event-init : goal.loop-event-init

@@ -5,7 +5,7 @@ use Rattle.jlr_plain.specs.Records.{replayed}
 use Rattle.jlr_plain.proofs.Records.{as_many}
 use Rattle.jlr_event.specs.declared.event.Event.TheVariants.{Ask as Asks}
 use Rattle.jlr_event.specs.declared.event.Reply.TheVariants.{Answered}
-use Rattle.jlr_core.specs.Events.{handed_out, take_up_answered}
+use Rattle.jlr_steps.specs.Events.{handed_out, take_up_answered}
 use Rattle.jlr_book.specs.Histories.{HasNumbers}
 use Rattle.jlr_book.specs.Rules.{AsksBy}
 use Rattle.jlr_book.proofs.Entering.{entry_recorded}

@@ -4,7 +4,7 @@ use Rattle.jlr_machine.specs.declared.ask.Answer.TheVariants.{Handed}
 use Rattle.jlr_machine.specs.declared.ask.Ask.TheVariants.{HandOver}
 use Rattle.jlr_event.specs.declared.event.Event.TheVariants.{Ask as Asks}
 use Rattle.jlr_event.specs.declared.event.Reply.TheVariants.{Answered}
-use Rattle.jlr_core.specs.Cores.{Kept}
+use Rattle.jlr_steps.specs.Cores.{Kept}
 use Rattle.jlr_embed.proofs.Fitting.{stands_after}
 use Rattle.jlr_embed.proofs.Handing.{less_pending}
 use Rattle.jlr_embed.proofs.unrecorded.Unrecorded.hand_over.Goals as goal

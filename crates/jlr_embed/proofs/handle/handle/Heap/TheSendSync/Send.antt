@@ -12,7 +12,7 @@ use Rattle.std.proofs.alloc.Global.TheSendSync as alloc
 use Rattle.std_alloc.proofs.SendSync.{quiet, lies}
 use Rattle.std.specs.Prelude.{ℕ, Option, None, Some}
 use Rattle.std.specs.Global.{Global}
-use Rattle.jlr_core.specs.Cores.{Kept}
+use Rattle.jlr_steps.specs.Cores.{Kept}
 use Rattle.jlr_embed.proofs.unrecorded.Unrecorded.TheSendSync.{the_send as counter}
 use Rattle.jlr_embed.specs.Held.{heap_held, heap_row as R}
 use Rattle.jlr_embed.specs.contracts.handle.handle.Heap.{the_row, the_type}

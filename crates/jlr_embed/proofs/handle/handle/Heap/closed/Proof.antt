@@ -19,7 +19,7 @@ use denote.Triple.Walked.{Stays, stay_dropped, walk_of}
 use Rattle.core.proofs.alloc.Calls.{Goes-blank, handle_tells}
 use Rattle.std.proofs.raw_atomic.Walks.{proved_at, leaves}
 use Rattle.std.specs.Prelude.{ℕ, None, Option}
-use Rattle.jlr_core.specs.Cores.{Kept}
+use Rattle.jlr_steps.specs.Cores.{Kept}
 use Rattle.jlr_embed.proofs.Values.{both}
 use Rattle.jlr_embed.proofs.Handles.{Z, al, handle_good, handle_in}
 use Rattle.jlr_embed.specs.contracts.handle.handle.Heap.closed.{ended, clauses}

@@ -21,7 +21,7 @@ use Rattle.std.proofs.raw_atomic.Walks.{proved_at, leaves}
 use Rattle.std.specs.Prelude.{ℕ, Option, Some}
 use Rattle.std.proofs.alloc.Global.TheLaws as heap_laws
 use Rattle.std.specs.contracts.impls.GlobalAllocator.TheImpl.{ghosts}
-use Rattle.jlr_core.specs.Cores.{Kept}
+use Rattle.jlr_steps.specs.Cores.{Kept}
 use Rattle.jlr_embed.specs.Held.{heap_row as R}
 use Rattle.jlr_embed.proofs.Values.{both, Loose, loose_good, loose_out}
 use Rattle.jlr_embed.proofs.Handles.{Z, handle_in}

@@ -1,5 +1,0 @@
-use Rattle.jlr_core.proofs.Ticks.{counts_its_cycles}
-use Rattle.jlr_core.proofs.laws.a_cycle_keeps_what_it_blackened_and_made.Goals as goal
-
-pub returns : goal.returns
-returns g c = counts_its_cycles c.args.core.now

@@ -1,5 +1,0 @@
-use Rattle.std.specs.Prelude.{◌≡◌, length}
-use Rattle.jlr_hall_rows.proofs.tests.server.player.devices.Given as goal
-
-abbrev pub invariant-loop : goal.invariant-loop
-invariant-loop g l = length l.devices.items ≡ l.counter

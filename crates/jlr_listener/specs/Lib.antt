@@ -1,0 +1,3 @@
+-- Reading order.
+pub mod News
+pub mod Giving

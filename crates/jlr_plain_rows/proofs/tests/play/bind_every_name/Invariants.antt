@@ -1,5 +1,0 @@
-use Rattle.jlr_machine.specs.WellFormed.{IsWellFormed}
-use Rattle.jlr_plain_rows.proofs.tests.play.bind_every_name.Given as goal
-
-abbrev pub invariant-loop-number : goal.invariant-loop-number
-invariant-loop-number l = IsWellFormed l.machine

@@ -1,5 +1,0 @@
-use Rattle.jlr_machine.specs.WellFormed.{IsWellFormed}
-use Rattle.jlr_plain_rows.proofs.tests.play.first_wrong.Given as goal
-
-abbrev pub invariant-loop-row : goal.invariant-loop-row
-invariant-loop-row l = IsWellFormed l.machine

@@ -1,0 +1,4 @@
+pub mod CoreSteps
+pub mod Ranges
+pub mod Starts
+pub mod Ticks

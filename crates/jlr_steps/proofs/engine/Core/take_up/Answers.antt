@@ -1,0 +1,30 @@
+use Rattle.std.proofs.Common.{Some, subst}
+use Rattle.jlr_machine.specs.declared.ask.Ask.TheVariants.{TakeUp}
+use Rattle.jlr_machine.specs.Run.{no_choice}
+use Rattle.jlr_event.specs.declared.event.Event.TheVariants.{Ask as Asks}
+use Rattle.jlr_event.specs.declared.event.Reply.TheVariants.{Answered}
+use Rattle.jlr_state.specs.TakeUps.{handed_out, take_up_answered}
+use Rattle.jlr_event.specs.declared.event.Event.{Event}
+use Rattle.jlr_event.specs.declared.event.Reply.{Reply}
+use Rattle.jlr_steps.specs.Cores.{Kept}
+use Rattle.jlr_steps.specs.Steps.{IsStep}
+use Rattle.jlr_steps.proofs.CoreSteps.{keeps_invariant, kept_of, steps_core}
+use Rattle.jlr_steps.proofs.engine.Core.take_up.Goals as goal
+
+pub invariant_of-self : goal.invariant_of-self
+invariant_of-self g c =
+    let did = c.step_cleaner.ensures in
+    keeps_invariant {R = g.row.R.Denot} c.self.inside.state c.step_cleaner.new.state
+    (Asks TakeUp) (Some (take_up_answered c.step_cleaner.result))
+    no_choice (handed_out c.step_cleaner.result) c.self.invariant.0 c.self.invariant.1 did.entry did.rest
+
+pub returns-clause-step : goal.returns-clause-step
+returns-clause-step g c =
+    let did = c.step_cleaner.ensures in
+    let new = c.step_cleaner.new.state in
+    let event : Event g.row.R.Denot = Asks TakeUp in
+    let reply : Reply g.row.R.Denot =
+    Answered (take_up_answered c.step_cleaner.result) (handed_out c.step_cleaner.result) in
+    let chosen = no_choice in
+    subst (λ (k : Kept g.row.R.Denot). IsStep k event reply chosen (kept_of new)) c.self.view_is
+    (steps_core c.self.inside.state new event reply chosen c.self.invariant.0 did.entry did.rest tt)
