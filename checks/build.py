@@ -18,6 +18,7 @@ prints what `rt` said of it, ends the others, and exits with status 1.
 import argparse
 import ctypes
 import fcntl
+import hashlib
 import os
 import shutil
 import signal
@@ -244,15 +245,16 @@ def lock(order):
     return held
 
 
-def place_for_views():
-    """A new folder for views, on the tree's own file system where git has its folder there."""
+def place_for_views(order):
+    """The folder for views, on the tree's own file system where git has its folder there. It is the same each time,
+    since `rt` takes note of each folder in which it worked. What a killed build left is removed."""
     git = os.path.join(ROOT, ".git")
-    at = git if os.path.isdir(git) else tempfile.gettempdir()
-    for name in os.listdir(at):
-        words = name.split("-")
-        if name.startswith("refheap-build-") and not os.path.exists(f"/proc/{words[2]}"):
-            shutil.rmtree(os.path.join(at, name), ignore_errors=True)
-    return tempfile.mkdtemp(prefix=f"refheap-build-{os.getpid()}-", dir=at)
+    name = f"refheap-build-{os.getuid()}-{hashlib.sha256(ROOT.encode()).hexdigest()[:16]}"
+    place = os.path.join(git if os.path.isdir(git) else tempfile.gettempdir(), name)
+    os.makedirs(place, 0o700, exist_ok=True)
+    for crate in order:
+        shutil.rmtree(os.path.join(place, crate), ignore_errors=True)
+    return place
 
 
 def show_model(crates, order, asked):
@@ -275,10 +277,9 @@ def build(crates, order, asked):
     """Builds, and gives the exit status."""
     for number in (signal.SIGTERM, signal.SIGHUP):
         signal.signal(number, interrupt)
-    place = None
     try:
-        _held, place = lock(order), place_for_views()
-        builder = Builder(crates, order, asked, place)
+        _held = lock(order)
+        builder = Builder(crates, order, asked, place_for_views(order))
         if not builder.run():
             return 1
         builder.summary(asked.crates)
@@ -288,8 +289,6 @@ def build(crates, order, asked):
     except KeyboardInterrupt:
         print("\ninterrupted; what was proved is kept", file=sys.stderr)
         return 130
-    finally:
-        shutil.rmtree(place or "", ignore_errors=True)
 
 
 def arguments(crates):
