@@ -212,7 +212,7 @@ class Builder:
                         return False
             return True
         finally:
-            self.stop()
+            self.leave()
 
     def stop(self):
         """Ends what still runs; what it proved is kept."""
@@ -220,6 +220,12 @@ class Builder:
             run.stop()
             run.view.give_back()
         self.runs = {}
+
+    def leave(self):
+        """Ends what still runs, and removes the folder for views."""
+        self.stop()
+        if not os.listdir(self.place):
+            os.rmdir(self.place)
 
     def summary(self, wanted):
         """The last line."""
