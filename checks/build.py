@@ -4,8 +4,8 @@
     python3 checks/build.py [CRATE..]
 
 builds the named crates, and what they stand on; by default the program, refheap. It starts a crate as soon as what it
-stands on is built, the longest chain of crates first, and as many at once as processors and memory allow. What was built
-before and has not changed is kept. Ctrl-C ends it; what was proved by then is kept for the next build.
+stands on is built, the longest chain of crates first, and as many at once as processors and memory allow. What was
+built before and has not changed is kept. Ctrl-C ends it; what was proved by then is kept for the next build.
 
     --jobs N            uses N processors (default: all that this process may use)
     --memory GB         takes at most so much memory (default: nine tenths of what is free)
@@ -194,7 +194,8 @@ class Builder:
         """The line of progress."""
         if self.progress.is_terminal and time.monotonic() - self.told >= 1:
             self.told, running = time.monotonic(), sorted(self.runs, key=lambda it: -self.plan.behind[it])
-            self.progress.now(f"{len(self.plan.done)} of {len(self.order)} crates, {self.times()}: {', '.join(running)}")
+            done = f"{len(self.plan.done)} of {len(self.order)} crates"
+            self.progress.now(f"{done}, {self.times()}: {', '.join(running)}")
 
     def run(self):
         """All of them; the first that is not proved ends it. Gives whether all are built."""
@@ -239,7 +240,7 @@ class Builder:
 
 
 def lock(order):
-    """Waits until no `rt` works in these crates, and keeps others out, as `rt` itself does, while the result is held."""
+    """Waits until no `rt` works in these crates. Others wait, as for `rt` itself, while the result is held."""
     held = []
     for name in sorted(order):
         held.append(os.open(folder_of(name), os.O_RDONLY))

@@ -1,4 +1,4 @@
-"""The order in which build.py proves crates: the crates, what each costs, and what starts next. It starts nothing itself.
+"""The order in which build.py proves crates: the crates, what each costs, and what starts next. It starts nothing.
 
 crate_costs.txt has a line for each crate: the seconds in which one process works alone, the seconds of one job that
 further jobs share, and the memory of the largest process in MiB. `build.py --write-costs` measures them.
