@@ -85,14 +85,13 @@ def with_guesses(costs, names):
     return {name: costs.get(name, usual) for name in names}
 
 
-def measured(seconds, clock, jobs, memory, before):
-    """The cost of a crate by one run of it: its processor seconds, and its seconds by the clock with so many jobs.
+def measured(seconds, alone, jobs, memory, before):
+    """The cost of a crate by one run of it: its processor seconds, and those of the process that starts the jobs.
     One job tells nothing of what others could share: the share of the row before stays."""
-    if jobs > 1:
-        shared = min(max((seconds - clock) * jobs / (jobs - 1), 0), seconds)
-    else:
-        shared = seconds * before.shared / max(before.alone + before.shared, 1)
-    return Cost(seconds - shared, shared, memory)
+    if jobs == 1:
+        alone = seconds * before.alone / max(before.alone + before.shared, 1)
+    alone = min(alone, seconds)
+    return Cost(alone, seconds - alone, memory)
 
 
 def write_costs(new, path=COSTS):
