@@ -111,9 +111,11 @@ class Watch:
 class Progress:
     """How far the command is, by the lines that it prints."""
 
-    def __init__(self, lanes):
+    def __init__(self, lanes, words):
         self.began, self.is_terminal = time.monotonic(), sys.stderr.isatty()
         self.crates, self.proved, self.lines = crate_plan.read_crates(), set(), b""
+        named = crate_plan.closure(self.crates, [it for it in words if it in self.crates])
+        self.crates = {it: self.crates[it] for it in named or self.crates}
         self.costs = gate_model.read_costs()
         self.seconds = sum(self.takes(crate) for crate in self.crates)
         tasks = gate_model.tasks_of(self.crates, self.costs)
@@ -265,7 +267,7 @@ def main():
         return 0
     writes, words = words[:1] == ["--write-costs"], words[1:] if words[:1] == ["--write-costs"] else words
     found = Machine()
-    progress = Progress(found.lanes)
+    progress = Progress(found.lanes, words)
     environment = {**os.environ, "RT_JOBS": str(found.lanes)}
     command = subprocess.Popen(words or ["rt", "ci"], stdout=subprocess.PIPE, env=environment)
     end_with(command)
@@ -273,7 +275,8 @@ def main():
     output, status, seconds = follow(command, progress, watch)
     table = watch.table()
     tell(table)
-    found.tell(seconds, watch.largest)
+    # If the command was killed, the system does not count what it had started.
+    found.tell(max(seconds, watch.seconds()), watch.largest)
     for line in edits.findings(output):
         print(line, file=sys.stderr)
     if writes and NOTHING_KEPT in output:
