@@ -4,8 +4,8 @@
     python3 checks/build.py [CRATE..]
 
 builds the named crates, and what they stand on; by default the program, refheap. It starts a crate as soon as what it
-stands on is built, the longest chain of crates first, and as many at once as processors and memory allow. What was built
-before and has not changed is kept. Ctrl-C ends it; what was proved by then is kept for the next build.
+stands on is built, the longest chain of crates first, and as many at once as processors and memory allow. What was
+built before and has not changed is kept. Ctrl-C ends it; what was proved by then is kept for the next build.
 
     --jobs N            uses N processors (default: all that this process may use)
     --memory GB         takes at most so much memory (default: nine tenths of what is free)
@@ -33,7 +33,7 @@ import machine  # noqa: E402
 from crate_view import ROOT, Texts, View, command_of, folder_of  # noqa: E402
 
 # The processors go first to the crates that lead; the others run with this niceness.
-NICE = 10
+NICE = 5
 SAMPLED_SECONDS = 2
 ENDS_WITH_PARENT = 1  # prctl's PR_SET_PDEATHSIG
 
@@ -58,7 +58,17 @@ class Run:
         self.view, self.jobs, self.began = view, jobs, time.monotonic()
         self.is_new = not os.path.exists(os.path.join(folder_of(view.name), "out", "incremental"))
         self.process = start(view, words, nice)
-        self.seconds, self.largest, self.clock = 0.0, 0, 0.0
+        self.seconds, self.alone, self.largest, self.clock = 0.0, 0.0, 0, 0.0
+
+    def look(self, found):
+        """Takes note of what its processes took so far, and gives the memory that they take now."""
+        own = self.process.pid
+        pids = [pid for pid in (own, *machine.descendants(own, found)) if pid in found]
+        self.seconds = sum(found[pid].seconds for pid in pids)
+        # the process that `rt` starts gives jobs to others, and waits for them
+        first = sum(found[pid].own_seconds for pid in pids if pid == own or found[pid].parent == own)
+        self.alone = max(self.alone, first)
+        return machine.memory_of(pids, found)
 
     def poll(self):
         """The exit status once it has ended, or None."""
@@ -143,12 +153,8 @@ class Builder:
         """Looks at what the running crates take."""
         if time.monotonic() - self.sampled < SAMPLED_SECONDS:
             return
-        self.sampled, found, ours = time.monotonic(), machine.processes(), 0
-        for run in self.runs.values():
-            pids = [run.process.pid, *machine.descendants(run.process.pid, found)]
-            pids = [pid for pid in pids if pid in found]
-            run.seconds = sum(found[pid].seconds for pid in pids)
-            ours += machine.memory_of(pids, found)
+        found = machine.processes()
+        self.sampled, ours = time.monotonic(), sum(run.look(found) for run in self.runs.values())
         self.sum, self.memory = max(self.sum, ours), self.may_take(ours)
 
     def left(self):
@@ -179,9 +185,9 @@ class Builder:
         self.busy += run.seconds
         self.largest = max(self.largest, (run.largest, name))
         if is_measured:
-            self.measured[name] = crate_plan.measured(run.seconds, run.clock, run.jobs, run.largest, cost)
+            self.measured[name] = crate_plan.measured(run.seconds, run.alone, run.jobs, run.largest, cost)
             self.known = [self.known[0] + cost.alone + cost.shared, self.known[1] + run.seconds]
-        took = f"{run.clock:.0f} s, {run.seconds:.0f} processor seconds, {run.jobs} jobs, {run.largest} MiB"
+        took = f"{run.clock:.0f} s, {run.seconds:.0f} processor seconds in {run.jobs} jobs, {run.largest} MiB"
         self.progress.line(f"{name}: {took}; {len(self.plan.done)} of {len(self.order)} crates, {self.times()}")
         return True
 
@@ -194,7 +200,8 @@ class Builder:
         """The line of progress."""
         if self.progress.is_terminal and time.monotonic() - self.told >= 1:
             self.told, running = time.monotonic(), sorted(self.runs, key=lambda it: -self.plan.behind[it])
-            self.progress.now(f"{len(self.plan.done)} of {len(self.order)} crates, {self.times()}: {', '.join(running)}")
+            done = f"{len(self.plan.done)} of {len(self.order)} crates"
+            self.progress.now(f"{done}, {self.times()}: {', '.join(running)}")
 
     def run(self):
         """All of them; the first that is not proved ends it. Gives whether all are built."""
@@ -239,7 +246,7 @@ class Builder:
 
 
 def lock(order):
-    """Waits until no `rt` works in these crates, and keeps others out, as `rt` itself does, while the result is held."""
+    """Waits until no `rt` works in these crates. Others wait, as for `rt` itself, while the result is held."""
     held = []
     for name in sorted(order):
         held.append(os.open(folder_of(name), os.O_RDONLY))

@@ -1,4 +1,4 @@
-"""The order in which build.py proves crates: the crates, what each costs, and what starts next. It starts nothing itself.
+"""The order in which build.py proves crates: the crates, what each costs, and what starts next. It starts nothing.
 
 crate_costs.txt has a line for each crate: the seconds in which one process works alone, the seconds of one job that
 further jobs share, and the memory of the largest process in MiB. `build.py --write-costs` measures them.
@@ -85,14 +85,13 @@ def with_guesses(costs, names):
     return {name: costs.get(name, usual) for name in names}
 
 
-def measured(seconds, clock, jobs, memory, before):
-    """The cost of a crate by one run of it: its processor seconds, and its seconds by the clock with so many jobs.
+def measured(seconds, alone, jobs, memory, before):
+    """The cost of a crate by one run of it: its processor seconds, and those of the process that starts the jobs.
     One job tells nothing of what others could share: the share of the row before stays."""
-    if jobs > 1:
-        shared = min(max((seconds - clock) * jobs / (jobs - 1), 0), seconds)
-    else:
-        shared = seconds * before.shared / max(before.alone + before.shared, 1)
-    return Cost(seconds - shared, shared, memory)
+    if jobs == 1:
+        alone = seconds * before.alone / max(before.alone + before.shared, 1)
+    alone = min(alone, seconds)
+    return Cost(alone, seconds - alone, memory)
 
 
 def write_costs(new, path=COSTS):

@@ -67,7 +67,7 @@ def free_memory():
 
 
 class Process:
-    """What /proc says of a process: its parent, its own processor seconds with those of its ended children, its memory."""
+    """What /proc says of a process: its parent, its processor seconds (with ended children too), and its memory."""
 
     def __init__(self, fields):
         self.parent = int(fields[1])
@@ -102,7 +102,7 @@ def descendants(root, found):
 
 
 def memory_of(pids, found, above=0):
-    """The memory of processes. Pages that copies share count once; that is only asked if the plain sum is over `above`."""
+    """The memory of processes. If the plain sum is over `above`, pages that copies share are counted once."""
     plain = sum(found[pid].memory for pid in pids)
     if plain <= above:
         return plain

@@ -5,6 +5,7 @@
 
 Each test has a small repository of its own.
 """
+import fcntl
 import json
 import os
 import pty
@@ -265,6 +266,15 @@ class Builds(unittest.TestCase):
         self.assertEqual(set(costs), set(crate_plan.read_crates(self.repository.top)))
         self.assertLess(costs["left"].alone + costs["left"].shared, 8)
 
+    def test_it_waits_for_an_rt_that_works_in_a_crate(self):
+        held = os.open(f"{self.repository.top}/crates/low", os.O_RDONLY)
+        fcntl.flock(held, fcntl.LOCK_EX)
+        begun = self.repository.begin(stderr=subprocess.PIPE)
+        self.assertIn(b"waiting for an rt that works in crates/low", begun.stderr.readline())
+        os.close(held)
+        begun.communicate(timeout=30)
+        self.assertEqual(begun.returncode, 0)
+
     def test_a_wrong_name_is_refused(self):
         ran, _ = self.repository.build("nothing")
         self.assertEqual(ran.returncode, 2)
@@ -302,10 +312,10 @@ class Plans(unittest.TestCase):
                 plan.end(next(iter(plan.running)))
 
     def test_a_measured_run_becomes_a_row(self):
-        row = crate_plan.measured(seconds=100, clock=40, jobs=4, memory=500, before=crate_plan.Cost(1, 1, 1))
+        row = crate_plan.measured(seconds=100, alone=20, jobs=4, memory=500, before=crate_plan.Cost(1, 1, 1))
         self.assertAlmostEqual(row.seconds(4), 40)
         self.assertAlmostEqual(row.seconds(1), 100)
-        alone = crate_plan.measured(seconds=100, clock=100, jobs=1, memory=500, before=crate_plan.Cost(30, 10, 1))
+        alone = crate_plan.measured(seconds=100, alone=100, jobs=1, memory=500, before=crate_plan.Cost(30, 10, 1))
         self.assertAlmostEqual(alone.alone, 75)
 
 
