@@ -5,16 +5,17 @@
 
 PROGRAM is a refheap, proved or not. A fenced block is replayed if its first word is one of these:
 
-    session COMMAND   Each line is a line for the session that COMMAND starts, its reply, and a remark, two spaces apart.
-    clients COMMAND   The same for a server that COMMAND starts. The line begins with the name of a client; `...` in place of
-                      a reply says that the client waits, and `...` in place of a line stands for the reply to come.
-    console           Lines after `$ ` are commands of the shell, lines after `> ` their input, all others what they print;
-                      a printed line `...` stands for any lines.
+    session COMMAND   Each line has a command for the session that COMMAND starts, its reply and a remark, two spaces
+                      apart.
+    clients COMMAND   The same for a server that COMMAND starts. The line begins with the name of a client. `...` in
+                      place of a reply says that the client waits; in place of a command it stands for that reply.
+    console           Lines after `$ ` are commands of the shell, lines after `> ` their input, all others what they
+                      print. The printed line `...` stands for any lines.
 
-The remark "(N = A to B)" repeats a line for each N; "(after a moment)" allows ten seconds until the reply is right. In a
-COMMAND and in the shell, `refheap` is PROGRAM, and so is any program in crates/refheap/out/. Other blocks are not run
-(those marked sh build or install something). Each `make TARGET` of a page has to be in the Makefile. Ends with status 1 if
-a reply differs.
+The remark "(N = A to B)" repeats a line for each N; "(after a moment)" allows ten seconds until the reply is right. In
+a COMMAND and in the shell, `refheap` is PROGRAM, and so is any program in crates/refheap/out/. Other blocks are not
+run: those marked sh build or install something. Each `make TARGET` of a page has to be in the Makefile. Ends with
+status 1 if a reply differs.
 """
 import os
 import re
@@ -92,7 +93,7 @@ class Client:
 
 def words_of(command, program):
     """A command with the program in it, and for a command of make, as its variable PROGRAM."""
-    words = [program if word == "refheap" or word.startswith("crates/refheap/out/") else word for word in shlex.split(command)]
+    words = [program if word == "refheap" else word for word in shlex.split(command)]
     return [*words, "-s", "-C", ROOT, f"PROGRAM={program}"] if words[0] == "make" else words
 
 
@@ -100,7 +101,8 @@ def replay_session(command, text, program, folder):
     """A session of its own: all lines go in at once."""
     steps = [step for line, reply, *remark in rows_of(text, 2) for step in steps_of(line, reply, " ".join(remark))]
     given = "".join(line + "\n" for line, _ in steps)
-    ran = subprocess.run(words_of(command, program), input=given, capture_output=True, text=True, cwd=folder, timeout=SECONDS)
+    words = words_of(command, program)
+    ran = subprocess.run(words, input=given, capture_output=True, text=True, cwd=folder, timeout=SECONDS, check=False)
     replies = ran.stdout.splitlines()
     for (line, due), got in zip(steps, replies):
         expect(line, got, due)
@@ -156,7 +158,7 @@ def replay_clients(command, text, program, folder):
 
 
 def script_of(text, program):
-    """A console block as a script of the shell, and what it is to print. After a command in the background, a moment."""
+    """A console block as a script of the shell, and what it is to print. After a command in the background it waits."""
     script, due, given = [], [], None
     lines = text.splitlines()
     for number, line in enumerate(lines):
