@@ -72,8 +72,9 @@ install:
 
 # Removes the folders too, once they are empty, unless they are the system's own.
 uninstall:
-	rm -f "$(BIN)/refheap" "$(INCLUDE)/refheap.h" "$(LIB)/librefheap.a" "$(LIB)/librefheap.so" \
+	@rm -f "$(BIN)/refheap" "$(INCLUDE)/refheap.h" "$(LIB)/librefheap.a" "$(LIB)/librefheap.so" \
 	    "$(LIB)/librefheap.so.$(abi)" "$(LIB)/pkgconfig/refheap.pc"
+	@echo "removed what make install puts into $(DESTDIR)$(PREFIX)"
 	@case "$(DESTDIR)$(PREFIX)" in /usr|/usr/local) exit 0;; esac; \
 	for folder in "$(LIB)/pkgconfig" "$(LIB)" "$(INCLUDE)" "$(BIN)"; do \
 	    [ ! -d "$$folder" ] || rmdir --ignore-fail-on-non-empty "$$folder"; \
