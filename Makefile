@@ -28,23 +28,27 @@ quick:
 	@python3 checks/quick.py
 
 run:
-	@program="$(PROGRAM)"; \
-	[ -n "$$program" ] || for program in $(PROVED) $(UNPROVED); do [ -x $$program ] && break; done; \
-	[ -x "$$program" ] || [ "$$program" != $(UNPROVED) ] || $(MAKE) -s quick || exit 1; \
+	@program="$(PROGRAM)" note=; \
+	if [ -z "$$program" ]; then \
+	    program=$(PROVED); \
+	    [ -x $$program ] || program=$(UNPROVED); \
+	    [ -x $$program ] || $(MAKE) -s quick || exit 1; \
+	fi; \
 	case $$program in *-unproved) note=" (NOT PROVED, slow)";; esac; \
 	echo "A heap of 16 cells in $$program$$note." >&2; \
 	exec "$$program" run --cells 16
 
 test:
 	@checks/need.sh kit python3
+	@echo "Running the gate: README.md, \"Test\", says how long it takes. It removes what was built before."
 	@python3 checks/gate_times.py rt ci
 
 check: PROGRAM ?= $(PROVED)
 check:
 	@checks/need.sh python3 cc strace
-	@[ -x $(PROGRAM) ] || \
+	@[ -x "$(PROGRAM)" ] || \
 	    { echo "make: there is no $(PROGRAM): run make first, or name one: make check PROGRAM=.." >&2; exit 1; }
-	@checks/run $(PROGRAM)
+	@checks/run "$(PROGRAM)"
 
 lib:
 	@checks/need.sh kit python3 cc ar
@@ -89,7 +93,7 @@ help:
 	@echo "make quick               compile it within three minutes, NOT PROVED: $(UNPROVED)"
 	@echo "make run                 open a session in the terminal, with a heap of 16 cells;"
 	@echo "                         with the proved program if it is built, else with the unproved one"
-	@echo "make test                run the gate: each proof and each test"
+	@echo "make test                run the gate: each proof and each test; removes what was built before"
 	@echo "make check PROGRAM=..    test a built program: what the proofs do not cover"
 	@echo "make lib                 prove the C library and build it: librefheap.a, librefheap.so"
 	@echo "make install             install what is built (PREFIX=$(PREFIX), DESTDIR=)"
