@@ -46,7 +46,7 @@ class Client:
         self.reconnect(seconds)
 
     def reconnect(self, seconds=0):
-        """Connects, and retries for so many seconds while nobody listens. The session begins with its first reply."""
+        """Connects, and retries for this number of seconds while nobody listens. The session begins with its first reply."""
         until = time.monotonic() + seconds
         self.lines, self.unread, self.arrived = 0, b"", deque()
         while True:
