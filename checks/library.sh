@@ -15,3 +15,4 @@ kit=${KIT:-$(dirname "$(rt doc)")}
 printf 'create %s\naddlib %s\naddlib %s\nsave\nend\n' "$folder/librefheap.a" "$archive" "$kit/c/liblibc_c.a" | ar -M
 cc -shared -o "$folder/librefheap.so" ${soname:+-Wl,-soname,"$soname"} \
     -Wl,--whole-archive "$folder/librefheap.a" -Wl,--no-whole-archive -Wl,-z,defs
+[ -z "$soname" ] || ln -sf librefheap.so "$folder/$soname"
