@@ -81,7 +81,7 @@ def words():
         yield say(f"{file} has the words of refusals", re.findall(r'"([^"]*)"', found) == wanted)
     for file in ("refheap.py", "refheap.h", "refheap_example.c", "refheap.go", "Refheap.java", "cache.py", "pool.py", "watch.py"):
         with open(os.path.join(EXAMPLES, file), encoding="utf-8") as source:
-            yield say(f"{file} has under 200 lines", len(source.readlines()) < 200)
+            yield say(f"{file} has under 220 lines", len(source.readlines()) < 220)
 
 
 def ahead(program):

@@ -22,8 +22,7 @@ if [ -z "${REFHEAP_ARCHIVE:-}" ]; then
 fi
 archive=${OUT:-$room}/librefheap.a
 shared=${OUT:-$room}/librefheap.so
-printf 'create %s\naddlib %s\naddlib %s\nsave\nend\n' "$archive" "$built" "$kit/c/liblibc_c.a" | ar -M
-cc -shared -o "$shared" -Wl,--whole-archive "$archive" -Wl,--no-whole-archive -Wl,-z,defs
+KIT=$kit "$here/library.sh" "$built" "$(dirname "$archive")"
 
 folder=$here/../examples/embed_c
 strict="-Wall -Wextra -pedantic -Werror"

@@ -1,6 +1,6 @@
 #!/usr/bin/env python3
 """Tries the program as a person at a terminal meets it, on pseudo-terminals and pipes: the client of a server, the manual of the commands,
-the versions, the figures of a history, how far a long audit is, verdicts as JSON, and the reasons that are told where a file or a socket cannot be used.
+the figures of a history, how far a long audit is, verdicts as JSON, and the reasons that are told where a file or a socket cannot be used.
 
     checks/terminal.py PROGRAM
 
@@ -220,7 +220,6 @@ def manual(program, folder):
     wants("both kinds of collection", [line for line in run(program, ["commands", "gc"])[1].splitlines() if not line.startswith(" ")], ["gc", "gc soft"])
     status, text, said = run(program, ["commands", "walk"])
     wants("no such page", (status, text, "there is no such command" in said), (2, "", True))
-    wants("versions", run(program, ["version"]), (0, "refheap 1\ntrace files 1 and 2\n", ""))
     examples = [line.split("example  ")[1] for line in "".join(run(program, ["commands", word])[1] for word in words_of(lines)).splitlines()
                 if "example  " in line]
     replies = run(program, ["run"], "".join(f"{line}\n" for line in examples if line != "bye").encode(), folder)[1].splitlines()

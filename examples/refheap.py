@@ -1,16 +1,17 @@
-"""A client of `refheap serve`: each command is a method, a refusal or a fault is an exception that says it in words.
+"""A client of `refheap serve`: each command is a method, and a refusal or a fault is an exception with words.
 
-    with Client("/tmp/heap", seconds=10) as heap:       # tries for ten seconds to connect
+    with Client("DIR/heap", seconds=10) as heap:       # tries for ten seconds to connect
         entry = heap.new("r")
         held = heap.soft(entry)
         heap.drop(entry)
 
-`ahead` sends lines before it reads and gives their replies as text; it reads while it writes, so any number of lines is right. `write_all` and `read_all` cut bytes
-into lines. After a ConnectionError `reconnect` begins a new session, without handles; `renew` goes on in a new one with those that are named, before the
-1,000,000 lines of a session are used up. `Server(program, total)` is a server of one's own, for a test or an example."""
+`ahead` sends any number of lines before it reads, and returns their replies as text. After a ConnectionError,
+`reconnect` begins a new session, without handles. `renew` moves handles to a new session, before the 1,000,000 lines of
+one are used up. `Server(program, total)` is a server of your own, for a test or an example."""
 import os
 import secrets
 import select
+import shutil
 import socket
 import subprocess
 import sys
@@ -38,14 +39,14 @@ class Fault(Exception):
 
 
 class Client:
-    """One session. A handle is a number; 0 is null. `lines` counts what was sent; a session ends with its 1,000,000th."""
+    """One session. A handle is a number, 0 is null. `lines` counts what was sent: the 1,000,000th ends the session."""
 
     def __init__(self, path, seconds=0):
         self.path = path
         self.reconnect(seconds)
 
     def reconnect(self, seconds=0):
-        """Connects, and tries again for so many seconds where nobody listens yet. The first reply shows that the session has its turn."""
+        """Connects, and retries for this number of seconds while nobody listens. The session begins with its first reply."""
         until = time.monotonic() + seconds
         self.lines, self.unread, self.arrived = 0, b"", deque()
         while True:
@@ -59,7 +60,7 @@ class Client:
                 time.sleep(0.01)
 
     def renew(self, *handles):
-        """A new session in place of this one. Gives the new numbers of these handles; an array under a name of its own holds their objects meanwhile."""
+        """Begins a new session, and returns new handles for the objects of these. A named array holds them meanwhile."""
         name, held = f"renew_{secrets.token_hex(8)}", self.array(max(1, len(handles)))
         for number, handle in enumerate(handles):
             self.put(held, number, handle)
@@ -79,7 +80,7 @@ class Client:
         self.close_session()
 
     def ahead(self, *lines):
-        """Sends all lines, and gives as many replies, as text. It reads while it writes, so neither side waits for the other for ever."""
+        """Sends all lines and returns their replies. It reads while it writes, so the two sides never both wait."""
         if any("\n" in line for line in lines):
             raise ValueError("a line has no line end within")
         data, sent = memoryview("".join(line + "\n" for line in lines).encode()), 0
@@ -158,11 +159,12 @@ def read_reply(reply, line=""):
 
 
 def _command(name):
-    return lambda self, *words: self.ask(" ".join([name, *[word.hex() if isinstance(word, bytes) else str(word) for word in words]]))
+    spelled = lambda word: word.hex() if isinstance(word, bytes) else str(word)
+    return lambda self, *words: self.ask(" ".join([name, *map(spelled, words)]))
 
 
-for _name in ("array", "put", "get", "setint", "int", "dup", "drop", "same", "deref", "refers", "clear", "enqueue", "enqueued", "queue", "poll", "remove",
-              "cleaner", "register", "clean", "open", "connect", "read", "write", "close", "bind", "find", "unbind", "names", "gc", "stat", "notes", "faults"):
+for _name in ("array put get setint int dup drop same deref refers clear enqueue enqueued queue poll remove cleaner "
+              "register clean open connect read write close bind find unbind names gc stat notes faults").split():
     setattr(Client, _name, _command(_name))
 for _name in ("soft", "weak", "phantom"):
     setattr(Client, _name, (lambda name: lambda self, handle, queue=0: self.ask(f"{name} {handle} {queue}"))(_name))
@@ -174,7 +176,8 @@ class Server:
     def __init__(self, program, total, *options):
         self.folder = tempfile.TemporaryDirectory()
         self.path = os.path.join(self.folder.name, "socket")
-        self.process = subprocess.Popen([program, "serve", "--socket", self.path, "--total", str(total), *options], stdout=subprocess.PIPE, text=True)
+        words = [program, "serve", "--socket", self.path, "--total", str(total), *options]
+        self.process = subprocess.Popen(words, stdout=subprocess.PIPE, text=True)
         while not os.path.exists(self.path):
             if self.process.poll() is not None:
                 raise RuntimeError("the server did not start")
@@ -184,16 +187,17 @@ class Server:
         return Client(self.path, seconds=10)
 
     def end(self):
-        """Waits for the server's end. Its exit status, how many clients it served, and how many entries its history has."""
+        """Waits until the server ends. Returns its exit status, its clients, and the entries of its history."""
         served, entries = [int(line.split()[1]) for line in self.process.communicate()[0].splitlines()]
         self.folder.cleanup()
         return self.process.returncode, served, entries
 
 
 def program_of(words):
-    """The program that a command line names; where there is none, a sentence and the end."""
+    """Returns the program that a command line names; without one, prints a sentence and exits."""
     if len(words) != 2:
-        sys.exit(f"usage: python3 {words[0]} PROGRAM, the built refheap: crates/refheap/out/refheap")
-    if not os.path.isfile(words[1]) or not os.access(words[1], os.X_OK):
-        sys.exit(f"{words[0]}: {words[1]} is no program that can be started")
-    return os.path.abspath(words[1])
+        sys.exit(f"usage: python3 {words[0]} PROGRAM, a refheap: crates/refheap/out/refheap, or refheap-unproved there")
+    program = shutil.which(words[1])
+    if program is None:
+        sys.exit(f"{words[0]}: {words[1]} is no program that can be started; `make` or `make quick` builds one")
+    return os.path.abspath(program)

@@ -1,10 +1,11 @@
-"""Programs that learn which of another's things have died.
+"""Programs that learn which objects of another program have died.
 
-An owner keeps things of two kinds, each under a key. For each it makes a weak reference with the queue of its kind, and puts it into an array: the key's number is its
-place. A watcher waits in `remove` on the queue of its kind, so the kind costs nothing to tell. Which key it was it learns by `same`: it asks of all references that have
-not died yet, sent ahead, three lines a key. Arrays hold more keys than there are names.
+    python3 watch.py PROGRAM      PROGRAM is a refheap; with one that is not proved this takes half a minute
 
-    python3 watch.py PROGRAM
+It follows the recipe of docs/protocol.md. An owner keeps objects of two kinds, each under a key. For each object it
+registers a weak reference with the queue of the kind, and puts the reference into an array, at the key. A watcher waits
+in `remove` on the queue of its kind, and compares the reference that it gets with those of the keys that have not died.
+It sends these comparisons ahead, three commands a key.
 """
 import multiprocessing
 import random
@@ -21,7 +22,7 @@ def ask_all(heap, lines):
 
 
 def which(heap, index, places, reference):
-    """At which of these places of the index the reference stands."""
+    """Returns the place of the index, one of these, at which the reference stands."""
     for start in range(0, len(places), AT_ONCE):
         some = places[start:start + AT_ONCE]
         known = ask_all(heap, [f"get {index} {place}" for place in some])
@@ -33,7 +34,7 @@ def which(heap, index, places, reference):
 
 
 def watch(path, kind, told, said):
-    """Tells of each death the key; says when it is ready, and in the end how many lines were sent."""
+    """Reports the key of each object that died. It says when it is ready, and in the end how many lines it sent."""
     with Client(path, seconds=10) as heap:
         queue, index, places = heap.find(f"dead_{kind}"), heap.find(f"all_{kind}"), list(range(KEYS))
         said.put("ready")
@@ -48,7 +49,7 @@ def watch(path, kind, told, said):
 
 
 class Owner:
-    """Keeps the things of all kinds, each in an array of its kind."""
+    """Keeps the objects of all kinds, each in an array of its kind."""
 
     def __init__(self, heap):
         self.heap, self.things = heap, {}
@@ -59,40 +60,50 @@ class Owner:
             for key in range(KEYS):
                 thing = heap.new()
                 reference = heap.weak(thing, queue)
-                ask_all(heap, [f"put {self.things[kind]} {key} {thing}", f"put {index} {key} {reference}", f"drop {reference}", f"drop {thing}"])
+                ask_all(heap, [f"put {self.things[kind]} {key} {thing}", f"put {index} {key} {reference}",
+                               f"drop {reference}", f"drop {thing}"])
 
     def lose(self, kind, key):
         self.heap.put(self.things[kind], key, 0)
 
 
+def lose_all(owner, told):
+    """Loses all objects, 50 at a time. Returns whether the watchers reported each 50, and the seconds that it took."""
+    everything = [(kind, key) for kind in KINDS for key in range(KEYS)]
+    random.Random(3).shuffle(everything)
+    begun, right = time.monotonic(), True
+    for start in range(0, len(everything), 50):
+        lost = everything[start:start + 50]
+        for kind, key in lost:
+            owner.lose(kind, key)
+        owner.heap.gc()
+        found = [told.get(timeout=60) for _ in lost]
+        right &= sorted(found) == sorted(lost)
+        print(f"lost {len(lost)}, the last is {lost[-1][0]} {lost[-1][1]}; "
+              f"{len(found)} reported, the last is {found[-1][0]} {found[-1][1]}", flush=True)
+    return right, time.monotonic() - begun
+
+
 def main(program):
-    server = Server(program, len(KINDS) + 1, "--sessions", str(len(KINDS) + 1))
-    told, said, right = multiprocessing.Queue(), multiprocessing.Queue(), True
+    seats = len(KINDS) + 1
+    server = Server(program, seats, "--sessions", str(seats), "--no-files")
+    told, said = multiprocessing.Queue(), multiprocessing.Queue()
     with server.client() as heap:
         owner = Owner(heap)
-        watchers = [multiprocessing.Process(target=watch, args=(server.path, kind, told, said), daemon=True) for kind in KINDS]
+        arguments = [(server.path, kind, told, said) for kind in KINDS]
+        watchers = [multiprocessing.Process(target=watch, args=given, daemon=True) for given in arguments]
         for watcher in watchers:
             watcher.start()
         for _ in KINDS:
             said.get(timeout=60)
-        everything = [(kind, key) for kind in KINDS for key in range(KEYS)]
-        random.Random(3).shuffle(everything)
-        seconds = time.monotonic()
-        for start in range(0, len(everything), 50):
-            lost = everything[start:start + 50]
-            for kind, key in lost:
-                owner.lose(kind, key)
-            heap.gc()
-            found = [told.get(timeout=60) for _ in lost]
-            right &= sorted(found) == sorted(lost)
-            print(f"lost 50, the last is {lost[-1][0]} {lost[-1][1]}; told of {len(found)}, the last is {found[-1][0]} {found[-1][1]}")
-        seconds = time.monotonic() - seconds
+        right, seconds = lose_all(owner, told)
         lines = sum(said.get(timeout=60) for _ in KINDS)
         for watcher in watchers:
             watcher.join()
     status, _, _ = server.end()
-    print(f"{len(everything)} deaths, {lines // len(everything)} lines and {1000 * seconds / len(everything):.1f} ms each")
-    print("each was told once, by its key" if right and status == 0 else f"SOMETHING IS WRONG, status {status}")
+    deaths = len(KINDS) * KEYS
+    print(f"{deaths} deaths, {lines // deaths} lines and {1000 * seconds / deaths:.1f} ms each")
+    print("each was reported once, by its key" if right and status == 0 else f"SOMETHING IS WRONG, status {status}")
     return 0 if right and status == 0 else 1
 
 

@@ -45,8 +45,8 @@
  *         return 0;
  *     }
  *
- * Building: cc program.c librefheap.a (checks/embed.sh makes the archive from the crate refheap_c). It
- * needs malloc, realloc, free, memcpy, memmove and memset.
+ * Building: cc program.c librefheap.a (`make lib` makes the archive from the crate refheap_c). It needs
+ * malloc, realloc, free, memcpy, memmove and memset.
  *
  * Handles and ownership
  *
@@ -114,6 +114,12 @@
 #ifdef __cplusplus
 extern "C" {
 #endif
+
+/* The version of this interface. docs/versions.md says what may change with each part of it. */
+#define REFHEAP_VERSION "0.9.0"
+#define REFHEAP_VERSION_MAJOR 0
+#define REFHEAP_VERSION_MINOR 9
+#define REFHEAP_VERSION_PATCH 0
 
 /* A heap, or none. */
 typedef struct refheap {
