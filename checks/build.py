@@ -34,7 +34,7 @@ from crate_view import ROOT, Texts, View, command_of, folder_of  # noqa: E402
 
 # The processors go first to the crates that lead; the others run with this niceness.
 NICE = 5
-SAMPLED_SECONDS = 2
+SAMPLED_SECONDS = 6
 ENDS_WITH_PARENT = 1  # prctl's PR_SET_PDEATHSIG
 
 
@@ -212,7 +212,7 @@ class Builder:
                 self.sample()
                 self.begin()
                 self.tell()
-                time.sleep(0.2)
+                time.sleep(0.5)
                 for name, run in list(self.runs.items()):
                     status = run.poll()
                     if status is not None and not self.end(name, status):
