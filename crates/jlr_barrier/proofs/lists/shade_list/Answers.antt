@@ -1,5 +1,6 @@
 use Rattle.std.proofs.Common.{◌≡◌, ◌∙◌, ◌⊎◌, Some, arith, refl, slice_get, subst, sym, take}
 use Rattle.std.proofs.lemmas.Option.{slice_get_within, get_or_from_slice_get}
+use Rattle.std.proofs.lemmas.Grind.{common_steps}
 use Rattle.jlr_machine.specs.Objects.{◌∈◌}
 use Rattle.jlr_links.specs.Lists.{list_at}
 use Rattle.jlr_marks.proofs.Shading.{shaded_same, shaded_then}
@@ -39,3 +40,6 @@ loop-place-preserved c =
           c.shade_target.ensures);
       next = comes_next items i d c.next-next.result here c.next-next.ensures;
     }
+
+pub returns : goal.returns
+returns c = grind (arith, common_steps)

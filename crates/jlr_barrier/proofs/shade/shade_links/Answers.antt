@@ -1,5 +1,6 @@
 use Rattle.std.proofs.Common.{◌≡◌, ◌⊎◌, ◌<◌, ℕ, Option, Some, None, sym, ◌∙◌, arith, subst, length, take}
 use Rattle.std.proofs.lemmas.List.{take_all}
+use Rattle.std.proofs.lemmas.Grind.{common_steps}
 use Rattle.jlr_machine.specs.Objects.{◌∈◌}
 use Rattle.jlr_cells.specs.Links.{linked}
 use Rattle.jlr_marks.specs.Marking.{Shaded}
@@ -35,3 +36,6 @@ returns c =
     let links = c.args.links.now in
     let all : take c.loop-place.place links ≡ links = take_all c.loop-place.place links (omega arith) in
     subst (λ l. Shaded (λ x. x ∈ linked l) c.args.marks.now c.loop-place.marks) all c.loop-place.invariant
+
+pub loop-place-init : goal.loop-place-init
+loop-place-init c = grind (arith, common_steps)
