@@ -229,13 +229,9 @@ fn are_served<T: Threads + Wait + Sync>(
 
 /// Whether there is a book, which is let go.
 fn has_book<R: Drop, D: Drop>(served: Result<Served<R, D>, ServeFault>) -> bool {
-    match served {
-        Ok(Served { book, .. }) => {
-            drop(book);
-            true
-        }
-        Err(_) => false,
-    }
+    let is_there = served.is_ok();
+    drop(served);
+    is_there
 }
 
 #[test]

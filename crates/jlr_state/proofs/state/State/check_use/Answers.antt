@@ -1,4 +1,5 @@
-use Rattle.std.proofs.Common.{sym, ◌∙◌}
+use Rattle.std.proofs.Common.{arith, sym, ◌∙◌}
+use Rattle.std.proofs.lemmas.Grind.{common_steps}
 use Rattle.jlr_state.specs.declared.resources.Guarded.{Guarded}
 use Rattle.jlr_state.specs.Guards.{IsGuardNamed}
 use Rattle.jlr_state.specs.Machines.{machine_of}
@@ -21,3 +22,6 @@ returns g c =
       free,
       use_idle m k h held c.requires named open_still not_out,
     )
+
+pub returns-then-is_out : goal.returns-then-is_out
+returns-then-is_out g c = grind (arith, common_steps)

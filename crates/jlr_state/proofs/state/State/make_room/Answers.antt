@@ -1,4 +1,5 @@
 use Rattle.std.proofs.Common.{arith}
+use Rattle.std.proofs.lemmas.Grind.{common_steps}
 use Rattle.jlr_state.specs.Machines.{machine_of}
 use Rattle.jlr_state.proofs.Clearings.{makes_room, none_chosen}
 use Rattle.jlr_state.proofs.state.State.make_room.Goals as goal
@@ -13,3 +14,6 @@ returns-then-vacant_count-cells-clause-made g c =
 pub returns-then-vacant_count-cells-clause-marks : goal.returns-then-vacant_count-cells-clause-marks
 returns-then-vacant_count-cells-clause-marks g c =
     λ none. none_chosen _ _ c.args.choice.now c.collect.new.choice _ c.requires.nothing c.collect.ensures.collects none
+
+pub returns-else-vacant_count-cells-clause-made : goal.returns-else-vacant_count-cells-clause-made
+returns-else-vacant_count-cells-clause-made g c = grind (arith, common_steps)
