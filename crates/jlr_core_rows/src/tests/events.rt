@@ -11,10 +11,10 @@
 //! A text has several lists. Each begins with `== ` and its name, and has a heap of its own. Behind a colon its name
 //! says what that heap has beside: `cells 32, sessions 2, resources 4, soft_age 1, first_action 9` where it is not 16,
 //! 1, 1, 0 and 1. A line that begins with `-- ` is a comment.
-use jlr_steps::engine::Core;
 use jlr_core::run::run;
 use jlr_event::event::{Event, Reply};
 use jlr_machine::machine::Machine;
+use jlr_steps::engine::Core;
 use jlr_types::{Limits, Mutator};
 use script::events_of;
 use std::alloc::{AllocError, Global};

@@ -3,10 +3,10 @@ ghost use Rattle.std.specs.Prelude.{length, ◌≤◌};
 
 use super::script::{is_answered, ready, shape_of};
 use super::{let_go, me};
-use jlr_steps::engine::Core;
 use jlr_event::event::Event;
 use jlr_machine::ask::Ask;
 use jlr_machine::choice::Choice;
+use jlr_steps::engine::Core;
 use jlr_types::{Handle, RefKind};
 use jlr_words::{handle_in, is_reply};
 use std::alloc::Global;

@@ -2,9 +2,9 @@
 ghost use Rattle.std.specs.Prelude.{IfOk, length, ◌≤◌};
 
 use super::{let_go, objects_in};
-use jlr_steps::engine::Core;
 use jlr_event::event::{Event, Reply};
 use jlr_machine::choice::Choice;
+use jlr_steps::engine::Core;
 use jlr_types::Limits;
 use jlr_words::{event_of, handle_in, is_reply};
 use std::alloc::{AllocError, Global};
