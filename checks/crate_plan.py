@@ -57,11 +57,11 @@ class Cost:
         self.alone, self.shared, self.memory = alone, shared, memory
 
     def seconds(self, jobs):
-        """The seconds by the clock with so many jobs."""
+        """The seconds by the clock with this number of jobs."""
         return self.alone + self.shared / jobs
 
     def space(self, jobs):
-        """The memory with so many jobs."""
+        """The memory with this number of jobs."""
         return self.memory * (1 + FURTHER_MEMORY * (jobs - 1))
 
 

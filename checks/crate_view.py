@@ -1,6 +1,6 @@
 """What build.py keeps of a crate, and where it builds one.
 
-A crate that is built has a file out/built, which tells of which text. It is built in a view: a copy of the crate and of
+A crate that is built has a file out/built with the sum of its text. It is built in a view: a copy of the crate and of
 what it stands on, by links.
 """
 import hashlib

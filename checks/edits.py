@@ -137,7 +137,7 @@ def main():
         return 2
     with (sys.stdin if words[0] == "-" else open(words[0], encoding="utf-8", errors="replace")) as file:
         found = findings(file.read())
-    print("\n".join(found) or "the output tells of no edit")
+    print("\n".join(found) or "the output names no edit")
     return int(not found or len(found) > 1)
 
 

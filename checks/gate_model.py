@@ -49,7 +49,7 @@ def write_costs(rows, path=COSTS):
 
 
 def lines_of(crate):
-    """The lines of a crate's .rt files, by which `rt ci` tells which chain is the longest."""
+    """The lines of a crate's .rt files, by which `rt ci` finds the longest chain."""
     found = 0
     for part in ("src", "specs", "proofs"):
         for at, _, files in os.walk(os.path.join(ROOT, "crates", crate, part)):
@@ -120,7 +120,7 @@ class Outcome:
 
 
 def model(tasks, lanes):
-    """Follows the checks through so many lanes."""
+    """Follows the checks through this number of lanes."""
     left, running, done, found = in_order(tasks), {}, set(), Outcome()
     while left or running:
         for key in [it for it in left if done.issuperset(tasks[it].waits)]:
